@@ -1,9 +1,8 @@
 -- The best offer of a group, if no lines are counted.
-use Rattle.std.proofs.Common.{[], ◌∷◌, ◌≡◌, ◌∙◌, ℕ, ◌+◌, ◌<◌, ◌≤◌, Bool, true, false, List, min, refl, ap, sym, subst, arith, Option, Some, None}
-use Rattle.std.specs.Prelude.{ℤ, pos, ◌+ℤ◌, ◌<ℤ◌, ◌≤ℤ◌, nat_lt, slice_get, ◌&&◌}
-use Rattle.std.proofs.lemmas.Int.{ints}
+use Rattle.std.proofs.Common.{◌≡◌, ◌∙◌, ℕ, ◌+◌, ◌<◌, ◌≤◌, Bool, true, false, List, min, refl, ap, sym, subst, arith, Option, Some, None}
+use Rattle.std.specs.Prelude.{ℤ, nat_lt, slice_get, ◌&&◌}
 use Rattle.std.proofs.Math.Logic.{◌⊎◌, inl, inr}
-use Rattle.std.proofs.lemmas.Bool.{cases_Bool, cond-true, cond-false}
+use Rattle.std.proofs.lemmas.Bool.{cases_Bool, cond-false}
 use Rattle.std.proofs.lemmas.Option.{same_Some}
 use Rattle.node_core.specs.declared.params.Params.{Params}
 use Rattle.break_lines.specs.declared.group.ActiveGroup.{ActiveGroup}
@@ -11,20 +10,19 @@ use Rattle.break_lines.specs.declared.state.Fitness.{Fitness}
 use Rattle.break_lines.specs.declared.state.LineCost.{LineCost}
 use Rattle.break_lines.specs.declared.state.BreakState.{BreakState}
 use Rattle.break_lines.specs.Orders.{NotAfter}
-use Rattle.break_lines.specs.Problems.{Problem, tie_numbers}
+use Rattle.break_lines.specs.Problems.{Problem}
 use Rattle.break_lines.specs.Ways.{last_forced_below}
 use Rattle.break_lines.specs.Tables.{Entry, extended_entry, compared_numbers, offer, IsOffered, IsRow, IsKept, IsPut}
-use Rattle.break_lines.proofs.Dictionary.{state_same, not_after_refl, not_after_trans, not_after_later}
+use Rattle.break_lines.proofs.Dictionary.{state_same, not_after_refl, not_after_trans}
 use Rattle.break_lines.proofs.Reached.{offer_is}
 use Rattle.break_lines.proofs.Rows.{row_best}
 use Rattle.break_lines.specs.declared.sums.Sums.{Sums}
 use Rattle.break_lines.specs.declared.cost.LineFit.{LineFit}
 use Rattle.break_lines.specs.declared.cost.Bound.{Bound}
-use Rattle.break_lines.specs.Costs.{is_apart, adjacent_demerits, line_fit, admitted_line, line_alone, line_after, after_class}
+use Rattle.break_lines.specs.Costs.{line_fit, admitted_line, line_alone, line_after, after_class}
 use Rattle.break_lines.specs.Sizes.{fits_of_sums, fit_after}
 use Rattle.break_lines.proofs.Parts.{parts}
 use Rattle.break_lines.proofs.Widths.{both_overfull, greatest_none}
-use Rattle.break_core.specs.Private.Active.{IsBestOf}
 use Rattle.break_core.specs.Private.Filling.{IsOf, IsOfferingUnless, offer_from, IsBestOffer, IsOfferingBest}
 use Rattle.break_core.proofs.Active.{row_same}
 use Rattle.break_core.proofs.Overfull.{no_offer}
@@ -39,7 +37,7 @@ offers p params group place alone e k cut late follow at =
     ∙ ap Some (ap (λ n. extended_entry n e k place (line_after params e.end.class alone)) cut)
 
 -- All offers of a group are for one state.
-one_end :
+pub one_end :
     (params : Params) (place : ℕ) (alone : LineCost) (e f : Entry) (k j : ℕ)
     → (offer_from params e k place alone).end ≡ (offer_from params f j place alone).end
 one_end params place alone e f k j =
@@ -61,83 +59,6 @@ best_first table params place alone start next e best present is_next is =
         subst (λ x. NotAfter (compared_numbers best) (compared_numbers x))
         (is ∙ ap (λ n. offer_from params e n place alone) same ∙ ap (λ x. offer_from params x k place alone) one)
         (not_after_refl (compared_numbers best))
-
--- Demerits for visually incompatible lines are at least adjdemerits or 0.
-pub adjacent_low :
-    (params : Params) (before class : Fitness) (n : ℤ) → n ≤ℤ params.adj_demerits → n ≤ℤ pos 0 → n ≤ℤ adjacent_demerits params before class
-unfolding adjacent_demerits
-adjacent_low params before class n most none = cases (cases_Bool (is_apart before class))
-  where
-    cases : (is_apart before class ≡ true) ⊎ (is_apart before class ≡ false) → n ≤ℤ adjacent_demerits params before class
-    cases (inl apart) = subst (λ x. n ≤ℤ x) (sym (cond-true (is_apart before class) params.adj_demerits (pos 0) apart)) most
-    cases (inr near) = subst (λ x. n ≤ℤ x) (sym (cond-false (is_apart before class) params.adj_demerits (pos 0) near)) none
-
--- The first end of each list decides alone.
-first_ends :
-    (s t u v : BreakState) → NotAfter (tie_numbers (s ∷ u ∷ [])) (tie_numbers (t ∷ v ∷ [])) → NotAfter (tie_numbers (s ∷ [])) (tie_numbers (t ∷ []))
-first_ends s t u v (inl place) = inl place
-first_ends s t u v (inr (same, inl lines)) = inr (same, inl lines)
-first_ends s t u v (inr (same, inr (equal, inl class))) = inr (same, inr (equal, inl class))
-first_ends s t u v (inr (same, inr (equal, inr (class, rest)))) = inr (same, inr (equal, inr (class, tt)))
-
--- The offer of an entry to which no demerits are added is not after that of an entry that is not better.
-offers_in_order :
-    (params : Params) (place : ℕ) (alone : LineCost) (e f : Entry) (k j : ℕ)
-    → NotAfter (compared_numbers e) (compared_numbers f) → (line_after params e.end.class alone).demerits ≡ alone.demerits
-    → alone.demerits ≤ℤ (line_after params f.end.class alone).demerits
-    → NotAfter (compared_numbers (offer_from params e k place alone)) (compared_numbers (offer_from params f j place alone))
-offers_in_order params place alone e f k j order free more = with_costs order (e.demerits +ℤ (line_after params e.end.class alone).demerits)
-    (f.demerits +ℤ (line_after params f.end.class alone).demerits) refl refl
-  where
-    ends : BreakState
-    ends = (offer_from params e k place alone).end
-
-    tie : NotAfter (tie_numbers (e.end ∷ [])) (tie_numbers (f.end ∷ []))
-        → NotAfter (tie_numbers (ends ∷ e.end ∷ [])) (tie_numbers ((offer_from params f j place alone).end ∷ f.end ∷ []))
-    tie before =
-        subst (λ s. NotAfter (tie_numbers (ends ∷ e.end ∷ [])) (tie_numbers (s ∷ f.end ∷ []))) (one_end params place alone e f k j)
-        (not_after_later (tie_numbers (ends ∷ [])) (tie_numbers (e.end ∷ [])) (tie_numbers (f.end ∷ [])) before)
-
-    equal_costs :
-        (x y : ℤ) → e.demerits ≡ f.demerits → x ≡ e.demerits +ℤ (line_after params e.end.class alone).demerits
-        → y ≡ f.demerits +ℤ (line_after params f.end.class alone).demerits → (x <ℤ y) ⊎ (x ≡ y)
-    equal_costs x y same is_x is_y = closed x y (omega (arith, ints))
-      where
-        closed : (x y : ℤ) → x ≤ℤ y → (x <ℤ y) ⊎ (x ≡ y)
-        closed x y most = grind (arith, ints)
-
-    with_costs :
-        NotAfter (compared_numbers e) (compared_numbers f) → (x y : ℤ) → x ≡ e.demerits +ℤ (line_after params e.end.class alone).demerits
-        → y ≡ f.demerits +ℤ (line_after params f.end.class alone).demerits
-        → NotAfter ((e.overhang +ℤ alone.overhang) ∷ x ∷ tie_numbers (ends ∷ e.end ∷ []))
-        ((f.overhang +ℤ alone.overhang) ∷ y ∷ tie_numbers ((offer_from params f j place alone).end ∷ f.end ∷ []))
-    with_costs (inl less) x y is_x is_y = inl (omega (arith, ints))
-    with_costs (inr (same, inl less)) x y is_x is_y = inr (ap (λ n. n +ℤ alone.overhang) same, inl (omega (arith, ints)))
-    with_costs (inr (same, inr (equal, rest))) x y is_x is_y = last (equal_costs x y equal is_x is_y)
-      where
-        last : (x <ℤ y) ⊎ (x ≡ y)
-            → NotAfter ((e.overhang +ℤ alone.overhang) ∷ x ∷ tie_numbers (ends ∷ e.end ∷ []))
-            ((f.overhang +ℤ alone.overhang) ∷ y ∷ tie_numbers ((offer_from params f j place alone).end ∷ f.end ∷ []))
-        last (inl less) = inr (ap (λ n. n +ℤ alone.overhang) same, inl less)
-        last (inr level) = inr (ap (λ n. n +ℤ alone.overhang) same, inr (level, tie (first_ends e.end f.end e.from f.from rest)))
-
--- The best entry makes the best offer if no demerits are added for it, and none are subtracted for another entry.
-pub best_decides :
-    (table : List Entry) (params : Params) (place : ℕ) (alone : LineCost) (from to k : ℕ) (b offered : Entry)
-    → IsBestOf table from to k → slice_get table k ≡ Some b → offered ≡ offer_from params b k place alone
-    → (line_after params b.end.class alone).demerits ≡ alone.demerits → pos 0 ≤ℤ params.adj_demerits
-    → IsBestOffer table params place alone from to offered
-best_decides table params place alone from to k b offered best present is free some =
-    record { by = k; low = best.low; high = best.high; entry = b; present = present; is = is; least = least }
-  where
-    least : (j : ℕ) (f : Entry) → from ≤ j → j < to → slice_get table j ≡ Some f → NotAfter (compared_numbers offered) (compared_numbers (offer_from params f j place alone))
-    least j f low high at =
-        let one : b ≡ best.entry = same_Some b best.entry (sym present ∙ best.present) in
-        let before : NotAfter (compared_numbers b) (compared_numbers f) =
-        subst (λ x. NotAfter (compared_numbers x) (compared_numbers f)) (sym one) (best.best j f low high at) in
-        let added = adjacent_low params f.end.class alone.class (pos 0) some (omega (arith, ints)) in
-        subst (λ x. NotAfter (compared_numbers x) (compared_numbers (offer_from params f j place alone))) (sym is)
-        (offers_in_order params place alone b f k j before free (omega (arith, ints, added)))
 
 -- With one more entry, its offer is the best one, or is not better than the best one.
 best_taken :

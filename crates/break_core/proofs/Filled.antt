@@ -1,9 +1,12 @@
 -- The entries and the lines of a group.
-use Rattle.std.proofs.Common.{◌≡◌, ◌∙◌, ℕ, ◌≤◌, cond, List, Option, None, ap, sym}
+use Rattle.std.proofs.Common.{◌≡◌, ◌∙◌, ℕ, zero, suc, ◌+◌, ◌<◌, ◌≤◌, ◌++◌, cond, List, [], ◌∷◌, length, Option, None, ap, sym, arith}
+use Rattle.std.proofs.lemmas.Option.{same_Some}
 use Rattle.std.specs.Prelude.{ℤ, nat_lt, if◌then◌else◌}
 use Rattle.break_lines.specs.declared.group.ActiveGroup.{ActiveGroup}
 use Rattle.break_lines.specs.Problems.{Problem}
-use Rattle.break_lines.specs.Tables.{Entry, IsTable}
+use Rattle.break_lines.specs.Tables.{Entry, first_entry, IsTable, IsRow, row_entries}
+use Rattle.break_lines.proofs.Bellman.{next_table}
+use Rattle.break_lines.proofs.Live.{new_group}
 use Rattle.break_lines.specs.Private.Live.{IsGroup}
 use Rattle.node_core.specs.declared.params.Params.{Params}
 use Rattle.break_lines.specs.declared.sums.Sums.{Sums}
@@ -23,6 +26,20 @@ use Rattle.break_core.proofs.Active.{row_same}
 -- The entries of a live group have its place.
 pub group_of : (p : Problem) (table : List Entry) (b : ℕ) (g : ActiveGroup) → IsTable p b table → IsGroup p table b g → IsOf p.cut table g
 group_of p table b g is group k e low high at = (group.entries k e low high at, (is.below k e at).1)
+
+-- So have those of a new group, and those of the group of the start.
+pub new_of :
+    (p : Problem) (table : List Entry) (row : List (Option Entry)) (b : ℕ) (g : ActiveGroup)
+    → 0 < b → IsTable p b table → IsRow p table b (length table) row → g.place ≡ b → g.start ≡ length table → g.end ≡ length (table ++ row_entries row)
+    → IsOf p.cut (table ++ row_entries row) g
+new_of p table row b g some is full place start end =
+    group_of p (table ++ row_entries row) (b + 1) g (next_table p b table row some is full) (new_group p table row b g full some place start end)
+
+pub first_of : (cut : ℕ) (g : ActiveGroup) → g.place ≡ 0 → g.end ≡ 1 → IsOf cut (first_entry ∷ []) g
+first_of cut g place end zero e low high at =
+    let same : first_entry ≡ e = same_Some first_entry e at in
+    (ap (λ x. x.end.place) (sym same) ∙ sym place, omega (arith, ap (λ x. x.end.lines) same))
+first_of cut g place end (suc k) e low high at = absurd (omega (arith, end))
 
 -- A line that was judged by its sums is the line of the problem.
 pub fit_is :

@@ -12,4 +12,4 @@ pub mod Long
 pub mod Stopping
 pub mod Lives
 pub mod BestOffers
-pub mod Beaten
+pub mod Numbers

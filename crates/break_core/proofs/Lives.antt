@@ -16,7 +16,7 @@ use Rattle.break_core.specs.declared.pass_rules.StopRule.{StopRule}
 use Rattle.break_core.specs.declared.active_list.Live.{Live}
 use Rattle.break_lines.specs.declared.cost.Bound.{Bound}
 use Rattle.break_core.specs.Private.LeftOut.{over_before, kept_over}
-use Rattle.break_core.specs.Private.Active.{stops_at, problem_leaving_out, groups_of, with_group, with_live, AreOver, IsBestOf, HaveBest, IsNext, IsActive, IsFilled}
+use Rattle.break_core.specs.Private.Active.{stops_at, problem_leaving_out, groups_of, with_group, with_live, AreOver, HasBest, HaveBest, IsNext, IsActive, IsFilled}
 use Rattle.break_core.proofs.Active.{next_active, filled_first}
 use Rattle.break_core.proofs.Long.{over_start}
 
@@ -61,9 +61,9 @@ over_kept facts params b stopped lives new live are is made =
     all_kept (λ x. x.over ≡ over_before facts params x.group.place b) stopped lives new live are is made
 
 pub best_kept :
-    (table : List Entry) (stopped : Bool) (lives new : List Live) (live : Live)
-    → HaveBest table lives → IsBestOf table live.group.start live.group.end live.best → new ≡ cond stopped lives (lives ++ live ∷ []) → HaveBest table new
-best_kept table stopped lives new live are is made = all_kept (λ x. IsBestOf table x.group.start x.group.end x.best) stopped lives new live are is made
+    (table : List Entry) (params : Params) (stopped : Bool) (lives new : List Live) (live : Live)
+    → HaveBest table params lives → HasBest table params live → new ≡ cond stopped lives (lives ++ live ∷ []) → HaveBest table params new
+best_kept table params stopped lives new live are is made = all_kept (HasBest table params) stopped lives new live are is made
 
 -- The group of a place is appended to those of earlier places.
 pub groups_put :
@@ -85,28 +85,26 @@ over_put facts params place false lives new live are at none made =
 
 -- A group is appended only if it has entries.
 some_put :
-    (table : List Entry) (lives new : List Live) (live : Live)
-    → HaveBest table lives → live.group.start ≤ live.group.end
-    → (live.group.start < live.group.end → IsBestOf table live.group.start live.group.end live.best)
-    → new ≡ with_live lives live → HaveBest table new
-some_put table lives new live are rises is made = cases (cases_Bool (live.group.start == live.group.end))
+    (table : List Entry) (params : Params) (lives new : List Live) (live : Live)
+    → HaveBest table params lives → live.group.start ≤ live.group.end → (live.group.start < live.group.end → HasBest table params live)
+    → new ≡ with_live lives live → HaveBest table params new
+some_put table params lives new live are rises is made = cases (cases_Bool (live.group.start == live.group.end))
   where
-    cases : ((live.group.start == live.group.end) ≡ true) ⊎ ((live.group.start == live.group.end) ≡ false) → HaveBest table new
-    cases (inl empty) = subst (HaveBest table) (sym (made ∙ cond-true (live.group.start == live.group.end) lives (lives ++ live ∷ []) empty)) are
+    cases : ((live.group.start == live.group.end) ≡ true) ⊎ ((live.group.start == live.group.end) ≡ false) → HaveBest table params new
+    cases (inl empty) = subst (HaveBest table params) (sym (made ∙ cond-true (live.group.start == live.group.end) lives (lives ++ live ∷ []) empty)) are
     cases (inr some) =
         let less : live.group.start < live.group.end = apart live.group.start live.group.end rises some in
-        best_kept table false lives new live are (is less) (made ∙ cond-false (live.group.start == live.group.end) lives (lives ++ live ∷ []) some)
+        best_kept table params false lives new live are (is less) (made ∙ cond-false (live.group.start == live.group.end) lives (lives ++ live ∷ []) some)
       where
         apart : (n m : ℕ) → n ≤ m → (n == m) ≡ false → n < m
         apart n m at_most other = grind arith
 
 pub best_put :
-    (table : List Entry) (forced : Bool) (lives new : List Live) (live : Live)
-    → HaveBest table lives → live.group.start ≤ live.group.end
-    → (live.group.start < live.group.end → IsBestOf table live.group.start live.group.end live.best)
-    → new ≡ with_live (cond forced [] lives) live → HaveBest table new
-best_put table true lives new live are rises is made = some_put table [] new live (λ k x there. absurd (cc)) rises is made
-best_put table false lives new live are rises is made = some_put table lives new live are rises is made
+    (table : List Entry) (params : Params) (forced : Bool) (lives new : List Live) (live : Live)
+    → HaveBest table params lives → live.group.start ≤ live.group.end → (live.group.start < live.group.end → HasBest table params live)
+    → new ≡ with_live (cond forced [] lives) live → HaveBest table params new
+best_put table params true lives new live are rises is made = some_put table params [] new live (λ k x there. absurd (cc)) rises is made
+best_put table params false lives new live are rises is made = some_put table params lives new live are rises is made
 
 -- The group of the start.
 pub over_first : (facts : Facts) (params : Params) (live : Live) → live.group.place ≡ 0 → live.over ≡ None → AreOver facts params 1 (live ∷ [])

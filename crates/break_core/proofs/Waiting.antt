@@ -30,7 +30,7 @@ use Rattle.break_core.specs.Passes.{problem_of}
 use Rattle.break_core.specs.Trials.{is_overfull}
 use Rattle.break_core.specs.Private.LeftOut.{is_long, over_before}
 use Rattle.break_core.specs.Private.Filling.{IsOfferingBest}
-use Rattle.break_core.specs.Private.Active.{stops_after, leaves_out, stops_at, problem_leaving_out, groups_of, AreOver, HaveBest, MayStop, IsBestOf, IsActive, AreLoosest, AllWait, CostLoosest, CanWait, CanAllWait, IsOfferingFirst, IsOfferingEach, IsOfferingWaiting, WasTried}
+use Rattle.break_core.specs.Private.Active.{stops_after, leaves_out, stops_at, problem_leaving_out, groups_of, AreOver, HasBest, HaveBest, MayStop, IsActive, AreLoosest, AllWait, CostLoosest, CanWait, CanAllWait, IsOfferingFirst, IsOfferingEach, IsOfferingWaiting, WasTried}
 use Rattle.break_core.proofs.Active.{later_silent, kept_active, row_silent, row_same, row_end, next_active, IsFront}
 use Rattle.break_core.proofs.Detours.{first_is, long_means}
 use Rattle.break_core.proofs.Filled.{group_of}
@@ -294,8 +294,9 @@ pub over_joined :
 over_joined facts params b front back = all_joined (λ x. x.over ≡ over_before facts params x.group.place b) front back
 
 pub best_joined :
-    (table : List Entry) (front back : List Live) → HaveBest table front → HaveBest table back → HaveBest table (front ++ back)
-best_joined table front back = all_joined (λ x. IsBestOf table x.group.start x.group.end x.best) front back
+    (table : List Entry) (params : Params) (front back : List Live)
+    → HaveBest table params front → HaveBest table params back → HaveBest table params (front ++ back)
+best_joined table params front back = all_joined (HasBest table params) front back
 
 -- What holds of all groups of a list holds of those from a number on.
 all_from :
@@ -309,8 +310,8 @@ pub over_from :
     (facts : Facts) (params : Params) (b n : ℕ) (lives : List Live) → AreOver facts params b lives → AreOver facts params b (drop n lives)
 over_from facts params b n lives = all_from (λ x. x.over ≡ over_before facts params x.group.place b) n lives
 
-pub best_from : (table : List Entry) (n : ℕ) (lives : List Live) → HaveBest table lives → HaveBest table (drop n lives)
-best_from table n lives = all_from (λ x. IsBestOf table x.group.start x.group.end x.best) n lives
+pub best_from : (table : List Entry) (params : Params) (n : ℕ) (lives : List Live) → HaveBest table params lives → HaveBest table params (drop n lives)
+best_from table params n lives = all_from (HasBest table params) n lives
 
 -- Two lists that agree from a number on are the same from there on.
 pub same_rest :
@@ -349,13 +350,13 @@ pub record RestWaits
   pub active : IsActive (problem_leaving_out facts params bound rule) (stops_at facts params rule) table b b at low (groups_of rest)
   pub wait : AllWait facts params bound low b (groups_of rest)
   pub over : AreOver facts params b rest
-  pub best : HaveBest table rest
+  pub best : HaveBest table params rest
   pub uncounted : 0 < length rest → params.first_lines ≡ 0
 
 pub rest_waits :
     (facts : Facts) (params : Params) (bound : Bound) (rule : StopRule) (table : List Entry) (b at low first index end : ℕ) (lives now : List Live)
     → first ≤ index → index ≡ end → length now ≡ length lives → ((k : ℕ) → index ≤ k → slice_get now k ≡ slice_get lives k)
-    → (length lives ≤ end) ⊎ AreLoosest facts params bound low b → AreOver facts params b (drop first lives) → HaveBest table (drop first lives)
+    → (length lives ≤ end) ⊎ AreLoosest facts params bound low b → AreOver facts params b (drop first lives) → HaveBest table params (drop first lives)
     → IsActive (problem_leaving_out facts params bound rule) (stops_at facts params rule) table b b at low (drop index (groups_of lives))
     → RestWaits facts params bound rule table b at low (drop end now)
 rest_waits facts params bound rule table b at low first index end lives now begun last long rest wait over best is =
@@ -365,7 +366,7 @@ rest_waits facts params bound rule table b at low first index end lives now begu
           (ap (λ n. drop n (groups_of lives)) last ∙ drop-map (λ (x : Live). x.group) end lives) is;
       wait = all_wait facts params bound low b lives end wait;
       over = subst (AreOver facts params b) from_end (over_from facts params b (end - first) (drop first lives) over);
-      best = subst (HaveBest table) from_end (best_from table (end - first) (drop first lives) best);
+      best = subst (HaveBest table params) from_end (best_from table params (end - first) (drop first lives) best);
       uncounted = λ some. none some wait;
     })
   where

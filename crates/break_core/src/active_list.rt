@@ -3,18 +3,18 @@
 ghost use Rattle.std.specs.Prelude.{◌≡◌, ◌<◌, ◌≤◌, ◌+◌, ◌++◌, ◌&&◌, ℕ, true, [], ◌∷◌, length, take, drop, set, slice_get};
 ghost use Rattle.std.specs.Prelude.{Some, None, if◌then◌else◌, OnOk};
 ghost use Rattle.break_core.specs.Private.LeftOut.{is_more, kept_over};
-ghost use Rattle.break_core.specs.Private.Active.{with_live, live_of, IsBestOf};
+ghost use Rattle.break_core.specs.Private.Active.{with_live, live_of};
 
-use break_lines::{ActiveGroup, Entry};
+use break_lines::ActiveGroup;
 use std::alloc::AllocError;
 
 /// A group of entries from which lines are tried. `over` is the width, shrunk as far as possible, of the line to the first place to which it was
-/// overfull, and `best` is the number of the best entry, if there is one.
+/// overfull. `best` has for each class, if no lines are counted, the number of the entry that makes the best offer by a line of this class.
 #[derive(Clone, Copy, Debug, PartialEq, Eq)]
 pub(crate) struct Live {
     pub(crate) group: ActiveGroup,
     pub(crate) over: Option<i64>,
-    pub(crate) best: usize,
+    pub(crate) best: [usize; 4],
 }
 
 /// The groups from which lines are tried, in the order of their places: those of a list from number `first` on. Mostly trying stops from the first
@@ -37,43 +37,6 @@ impl LiveGroups {
 
 /// How many groups from which trying has stopped stay in front of the others.
 const MOST_STOPPED: usize = 32;
-
-/// The number of the best entry of a group, if it has entries.
-#[inline(always)]
-fn best_of(table: &[Entry], group: ActiveGroup) -> usize
-    requires group_bounded { group.end ≤ length table.now }
-    ensures { group.start < group.end → IsBestOf table.now group.start group.end result }
-{
-    if group.end <= group.start {
-        return group.start;
-    }
-    let mut best = group.start;
-    for index in group.start + 1..group.end {
-        best = if table[best].is_not_after(table[index]) {
-            best
-        } else {
-            index
-        };
-    }
-    best
-}
-
-impl Live {
-    /// A group from which no line has been tried yet.
-    #[inline(always)]
-    pub(crate) fn new(table: &[Entry], group: ActiveGroup) -> Live
-        requires group_bounded { group.end ≤ length table.now }
-        ensures group { result.group ≡ group }
-        ensures over { result.over ≡ None }
-        ensures best { group.start < group.end → IsBestOf table.now group.start group.end result.best }
-    {
-        Live {
-            group,
-            over: None,
-            best: best_of(table, group),
-        }
-    }
-}
 
 /// Whether a line of this width, shrunk as far as possible, has more overhang than the first overfull line.
 #[inline]

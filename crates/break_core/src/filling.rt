@@ -12,9 +12,9 @@ ghost use Rattle.break_core.specs.Private.Active.{IsCounted};
 ghost use Rattle.break_core.specs.Private.Active.{TrialsOnlyGrow, WasTried};
 
 use crate::active_list::{
-    Live, LiveGroups, add_group, first_waiting, keep_group, keep_over, remove_groups, rest_of,
+    LiveGroups, add_group, first_waiting, keep_group, keep_over, remove_groups, rest_of,
 };
-use crate::offering::{TriedLine, offer_line, offer_waiting};
+use crate::offering::{TriedLine, new_live, offer_line, offer_waiting};
 use crate::pass_rules::Rules;
 use break_lines::{ActiveGroup, Entry, Meter, empty_row, flush_row};
 use std::alloc::{AllocError, Global};
@@ -53,7 +53,7 @@ fn try_lines<M: Meter>(
     requires filled { IsFilled (problem_leaving_out (M.facts meter.old) rules.now.params.now rules.now.bound rules.now.stop_rule)
         (stops_at (M.facts meter.old) rules.now.params.now rules.now.stop_rule) place table.now (groups_of (live_of lives.old)) }
     requires over { AreOver (M.facts meter.old) rules.now.params.now place (live_of lives.old) }
-    requires best { HaveBest table.now (live_of lives.old) }
+    requires best { HaveBest table.now rules.now.params.now (live_of lives.old) }
     requires first_bounded { lives.old.first ≤ length lives.old.list.items }
     requires empty { row.old.items ≡ replicate (slots rules.now.params.now.first_lines) None }
     requires may { MayStop rules.now.stop_rule (M.facts meter.old) rules.now.params.now rules.now.bound }
@@ -65,7 +65,7 @@ fn try_lines<M: Meter>(
         IsActive (problem_leaving_out (M.facts meter.old) rules.now.params.now rules.now.bound rules.now.stop_rule)
         (stops_at (M.facts meter.old) rules.now.params.now rules.now.stop_rule) table.now (place + 1) place 0 0 (groups_of (live_of lives.new)) }
     ensures over { AreOver (M.facts meter.old) rules.now.params.now (place + 1) (live_of lives.new) }
-    ensures best { HaveBest table.now (live_of lives.new) }
+    ensures best { HaveBest table.now rules.now.params.now (live_of lives.new) }
     ensures first_bounded { lives.new.first ≤ length lives.new.list.items }
     ensures facts { M.facts meter.new ≡ M.facts meter.old }
     ensures trials { IsSwept (stops_at (M.facts meter.old) rules.now.params.now rules.now.stop_rule) place (M.trials meter.old) (M.trials meter.new) }
@@ -130,7 +130,7 @@ fn add_place<M: Meter>(
     requires filled { IsFilled (problem_leaving_out (M.facts meter.old) rules.now.params.now rules.now.bound rules.now.stop_rule)
         (stops_at (M.facts meter.old) rules.now.params.now rules.now.stop_rule) place reached.old.table.items (groups_of (live_of reached.old.live)) }
     requires over { AreOver (M.facts meter.old) rules.now.params.now place (live_of reached.old.live) }
-    requires best { HaveBest reached.old.table.items (live_of reached.old.live) }
+    requires best { HaveBest reached.old.table.items rules.now.params.now (live_of reached.old.live) }
     requires first_bounded { reached.old.live.first ≤ length reached.old.live.list.items }
     requires empty { row.old.items ≡ replicate (slots rules.now.params.now.first_lines) None }
     requires may { MayStop rules.now.stop_rule (M.facts meter.old) rules.now.params.now rules.now.bound }
@@ -141,7 +141,7 @@ fn add_place<M: Meter>(
         (stops_at (M.facts meter.old) rules.now.params.now rules.now.stop_rule) (place + 1)
         reached.new.table.items (groups_of (live_of reached.new.live))) }
     ensures over { OnOk result (AreOver (M.facts meter.old) rules.now.params.now (place + 1) (live_of reached.new.live)) }
-    ensures best { OnOk result (HaveBest reached.new.table.items (live_of reached.new.live)) }
+    ensures best { OnOk result (HaveBest reached.new.table.items rules.now.params.now (live_of reached.new.live)) }
     ensures first_bounded { OnOk result (reached.new.live.first ≤ length reached.new.live.list.items) }
     ensures empty { OnOk result (row.new.items ≡ replicate (slots rules.now.params.now.first_lines) None) }
     ensures facts { M.facts meter.new ≡ M.facts meter.old }
@@ -161,7 +161,7 @@ fn add_place<M: Meter>(
         start,
         end: reached.table.len(),
     };
-    let live = Live::new(&reached.table, group);
+    let live = new_live(&reached.table, group, rules.params);
     add_group(&mut reached.live, forced, live)?;
     Ok(())
 }
@@ -200,7 +200,7 @@ pub(crate) fn fill<M: Meter>(
         start: 0,
         end: 1,
     };
-    let live = Live::new(&reached.table, group);
+    let live = new_live(&reached.table, group, rules.params);
     reached.live.list.push(live)?;
     // The row is reused for all places.
     let mut row = empty_row(alloc, rules.params.first_lines.get())?;

@@ -1,21 +1,19 @@
 //! The offers of the entries of a group for a place, by a line that was tried from there.
 
-ghost use Rattle.std.specs.Prelude.{◌≡◌, ◌<◌, ◌≤◌, ◌<ℤ◌, ◌≤ℤ◌, pos, ◌&&◌, true, false, length, slice_get, Some};
-ghost use Rattle.break_lines.specs.declared.state.Fitness.{Fitness};
-ghost use Rattle.break_lines.specs.Tables.{Entry, slots, IsSmallLine};
+ghost use Rattle.std.specs.Prelude.{◌≡◌, ◌+◌, ◌<◌, ◌≤◌, ◌<ℤ◌, pos, ◌&&◌, true, false, length, slice_get, Some, None};
+ghost use Rattle.break_lines.specs.Tables.{Entry, slots};
 ghost use Rattle.break_lines.specs.Problems.{max_places};
-ghost use Rattle.break_lines.specs.Costs.{line_fit, is_loosest, line_after};
+ghost use Rattle.break_lines.specs.Costs.{line_fit, is_loosest};
 ghost use Rattle.break_lines.specs.Sizes.{fits_of_sums, IsSmallLineFits};
 ghost use Rattle.break_lines.specs.SmallCosts.{IsSmallAlone};
-ghost use Rattle.break_core.specs.Private.Filling.{IsOf, CanOffer, IsOffering, IsOfferingUnless, offer_from, IsBestOffer, IsLeastLine, IsBeaten};
-ghost use Rattle.break_core.specs.Private.Filling.{IsOfferingBest};
-ghost use Rattle.break_core.specs.Private.Active.{IsBestOf, CanOfferWaiting, IsOfferingEach, IsOfferingWaiting};
+ghost use Rattle.break_core.specs.Private.Filling.{IsOf, CanOffer, IsOffering, IsOfferingUnless, offer_from, IsBestOffer, IsOfferingBest};
+ghost use Rattle.break_core.specs.Private.Active.{IsBestFor, AreBestFor, HasBest, CanOfferWaiting, IsOfferingEach, IsOfferingWaiting};
 
 use crate::active_list::Live;
 use crate::pass_rules::Rules;
 use break_lines::{
-    ActiveGroup, Entry, LineCost, LineFit, LineFits, Sums, fit_both, fit_line, is_loosest,
-    line_after, line_alone, offer, put,
+    ActiveGroup, Entry, Fitness, LineCost, LineFit, LineFits, MAX_PLACES, Sums, fit_both, fit_line,
+    is_loosest, line_after, line_alone, offer, put,
 };
 use node_core::Params;
 
@@ -25,15 +23,6 @@ pub(crate) struct TriedLine {
     pub(crate) place: usize,
     pub(crate) penalty: i32,
     pub(crate) sums: Sums,
-}
-
-/// A line by which entries are offered, if no lines are counted: the place where it ends, the line without the demerits for the class of the line
-/// before it, and a line that has no more demerits than it after a line of any class.
-#[derive(Clone, Copy, Debug, PartialEq, Eq)]
-struct OfferedLine {
-    place: usize,
-    alone: LineCost,
-    least: LineCost,
 }
 
 /// What is found of a line that was tried, besides its offers: whether it is overfull after any number of lines, whether it is found so loose that a
@@ -153,148 +142,101 @@ fn best_offer(
     best
 }
 
-/// Whether the best entry of a group is known to make the best offer by a line: no demerits are added for its class, and none are subtracted for
-/// that of another entry.
+/// The number of the entry of a group that makes the best offer by each line of a class, if no lines are counted. The demerits for the class of the
+/// line before it decide, since all other costs of the line are the same for each entry; so the best offer by a line without costs tells.
 #[inline]
-fn decides(params: &Params, best: &Entry, alone: &LineCost) -> bool
-    requires costs_bounded { IsSmallAlone alone.now }
-    ensures free { result ≡ true → (line_after params.now best.now.end.class alone.now).demerits ≡ alone.now.demerits }
-    ensures some { result ≡ true → pos 0 ≤ℤ params.now.adj_demerits }
+fn best_for(table: &[Entry], group: ActiveGroup, params: &Params, class: Fitness) -> usize
+    requires has_entries { group.start < group.end }
+    requires group_bounded { group.end ≤ length table.now }
+    requires places { group.place < max_places }
+    requires entries { IsOf 0 table.now group }
+    ensures { IsBestFor table.now params.now class group.start group.end result }
 {
-    if params.adj_demerits.get() < 0 {
+    let line = LineCost {
+        class,
+        overhang: 0,
+        demerits: 0,
+    };
+    best_offer(table, group, params, group.place + 1, &line).index()
+}
+
+/// Whether a group has several entries, of which one or another makes the best offer: no lines are counted, and there can be places after it.
+#[inline(always)]
+fn has_several(group: ActiveGroup, params: &Params) -> bool
+    ensures some { result ≡ true → group.start < group.end }
+    ensures uncounted { result ≡ true → params.now.first_lines ≡ 0 }
+    ensures places { result ≡ true → group.place < max_places }
+    ensures few { result ≡ false → params.now.first_lines ≡ 0 → group.place < max_places → group.end ≤ group.start + 1 }
+{
+    if params.first_lines.get() > 0 {
         return false;
     }
-    line_after(params, best.end().class, alone).demerits == alone.demerits
+    if group.place >= MAX_PLACES {
+        return false;
+    }
+    if group.end <= group.start {
+        return false;
+    }
+    group.end - group.start > 1
 }
 
-/// The best offer of the entries of a group for a place by a line, if no lines are counted. Mostly it is that of the best entry.
+/// The numbers of the entries of a group that make the best offers, by the class of the line, if no lines are counted. Most groups have one entry.
 #[inline]
-fn group_offer(
-    table: &[Entry],
-    live: &Live,
-    params: &Params,
-    place: usize,
-    alone: &LineCost,
-) -> Entry
-    requires group_bounded { live.now.group.end ≤ length table.now }
-    requires earlier { live.now.group.place < place }
-    requires entries { IsOf 0 table.now live.now.group }
-    requires best { IsBestOf table.now live.now.group.start live.now.group.end live.now.best }
-    requires places { place ≤ max_places }
-    requires costs_bounded { IsSmallAlone alone.now }
-    ensures { IsBestOffer table.now params.now place alone.now live.now.group.start live.now.group.end result }
+fn best_numbers(table: &[Entry], group: ActiveGroup, params: &Params) -> [usize; 4]
+    requires group_bounded { group.end ≤ length table.now }
+    requires entries { IsOf params.now.first_lines table.now group }
+    ensures { params.now.first_lines ≡ 0 → group.place < max_places → group.start < group.end → AreBestFor table.now params.now group result }
 {
-    if decides(params, &table[live.best], alone) {
-        return offer_from(table, live.best, params, place, alone);
+    if has_several(group, params) {
+        return [
+            best_for(table, group, params, Fitness::VeryLoose),
+            best_for(table, group, params, Fitness::Loose),
+            best_for(table, group, params, Fitness::Decent),
+            best_for(table, group, params, Fitness::Tight),
+        ];
     }
-    best_offer(table, live.group, params, place, alone)
+    [group.start; 4]
 }
 
-/// Puts the best offer of the entries of a group into the row, if no lines are counted. All offers are for one state then, so this has the effect of
-/// all of them. The function is not inlined, so that the loop over the groups has more registers; and it takes the line by value, which then is in
-/// memory only for a call.
-#[inline(never)]
-fn put_best(
-    row: &mut Vec<Option<Entry>>,
-    table: &[Entry],
-    live: &Live,
-    params: &Params,
-    line: OfferedLine,
-)
-    requires wide { length row.old.items ≡ slots 0 }
-    requires group_bounded { live.now.group.end ≤ length table.now }
-    requires earlier { live.now.group.place < line.place }
-    requires entries { IsOf 0 table.now live.now.group }
-    requires best { IsBestOf table.now live.now.group.start live.now.group.end live.now.best }
-    requires places { line.place ≤ max_places }
-    requires costs_bounded { IsSmallAlone line.alone }
-    ensures row { IsOfferingBest table.now params.now live.now.group line.place line.alone row.old.items row.new.items }
-    ensures wide { length row.new.items ≡ slots 0 }
-{
-    put(
-        row,
-        group_offer(table, live, params, line.place, &line.alone),
-        0,
-    );
-}
-
-/// A line that has no more demerits than this one after a line of any class.
+/// A group from which no line has been tried yet.
 #[inline]
-fn least_line(params: &Params, alone: &LineCost) -> LineCost
-    requires costs_bounded { IsSmallAlone alone.now }
-    ensures overhang { result.overhang ≡ alone.now.overhang }
-    ensures demerits { (before : Fitness) → result.demerits ≤ℤ (line_after params.now before alone.now).demerits }
-    ensures line_bounded { IsSmallLine result }
+pub(crate) fn new_live(table: &[Entry], group: ActiveGroup, params: &Params) -> Live
+    requires group_bounded { group.end ≤ length table.now }
+    requires entries { IsOf params.now.first_lines table.now group }
+    ensures group { result.group ≡ group }
+    ensures over { result.over ≡ None }
+    ensures best { group.start < group.end → HasBest table.now params.now result }
 {
-    let adjacent = i64::from(params.adj_demerits.get());
-    if adjacent >= 0 {
-        return *alone;
-    }
-    LineCost {
-        demerits: alone.demerits + adjacent,
-        ..*alone
+    Live {
+        group,
+        over: None,
+        best: best_numbers(table, group, params),
     }
 }
 
-/// The line to a place by which entries are offered, given the line without the demerits for the class of the line before it.
-#[inline]
-fn offered_line(params: &Params, place: usize, alone: LineCost) -> OfferedLine
-    requires costs_bounded { IsSmallAlone alone }
-    ensures place { result.place ≡ place }
-    ensures alone { result.alone ≡ alone }
-    ensures costs_bounded { IsSmallAlone result.alone }
-    ensures least { IsLeastLine params.now result.alone result.least }
-    ensures line_bounded { IsSmallLine result.least }
-{
-    OfferedLine {
-        place,
-        alone,
-        least: least_line(params, &alone),
-    }
-}
-
-/// Whether an offer that is held is known to be better than each offer of a group: its costs are below those of the best entry of the group by the
-/// line with the fewest demerits.
-#[inline]
-fn is_beaten(held: &Option<Entry>, best: &Entry, least: &LineCost) -> bool
-    requires line_bounded { IsSmallLine least.now }
-    ensures { result ≡ true → IsBeaten held.now best.now least.now }
-{
-    match held {
-        Some(held) => held.is_below(*best, *least),
-        None => false,
-    }
-}
-
-/// Offers the entries of a group by a line, if no lines are counted. Nothing is done if the offer that is held beats all of them.
+/// Offers the entries of a group by a line, if no lines are counted. All offers are for one state then, so the best one is enough.
 #[inline(always)]
 fn offer_best(
     row: &mut Vec<Option<Entry>>,
     table: &[Entry],
     live: &Live,
     params: &Params,
-    line: &OfferedLine,
+    place: usize,
+    alone: LineCost,
 )
+    requires uncounted { params.now.first_lines ≡ 0 }
     requires wide { length row.old.items ≡ slots 0 }
     requires group_bounded { live.now.group.end ≤ length table.now }
-    requires earlier { live.now.group.place < line.now.place }
+    requires earlier { live.now.group.place < place }
     requires entries { IsOf 0 table.now live.now.group }
-    requires best { IsBestOf table.now live.now.group.start live.now.group.end live.now.best }
-    requires places { line.now.place ≤ max_places }
-    requires costs_bounded { IsSmallAlone line.now.alone }
-    requires least { IsLeastLine params.now line.now.alone line.now.least }
-    requires line_bounded { IsSmallLine line.now.least }
-    ensures row { IsOfferingBest table.now params.now live.now.group line.now.place line.now.alone row.old.items row.new.items }
+    requires best { HasBest table.now params.now live.now }
+    requires places { place ≤ max_places }
+    requires costs_bounded { IsSmallAlone alone }
+    ensures row { IsOfferingBest table.now params.now live.now.group place alone row.old.items row.new.items }
     ensures wide { length row.new.items ≡ slots 0 }
 {
-    if is_beaten(
-        &row[line.alone.class.class_index()],
-        &table[live.best],
-        &line.least,
-    ) {
-        return;
-    }
-    put_best(row, table, live, params, *line);
+    let best = live.best[alone.class.class_index()];
+    put(row, offer_from(table, best, params, place, &alone), 0);
 }
 
 /// Offers the entries of a group for a place, by a line that was tried from there, unless it is left out. Returns what is found of the line. If no
@@ -309,7 +251,7 @@ pub(crate) fn offer_line(
     tried: TriedLine,
 ) -> Judgement
     requires can { CanOffer rules.now.params.now.first_lines row.old.items table.now live.now.group tried }
-    requires best { IsBestOf table.now live.now.group.start live.now.group.end live.now.best }
+    requires best { HasBest table.now rules.now.params.now live.now }
     ensures row { IsOfferingUnless left_out table.now rules.now.params.now rules.now.bound live.now.group tried.place tried.penalty
         (fits_of_sums rules.now.params.now tried.sums) row.old.items row.new.items }
     ensures wide { length row.new.items ≡ slots rules.now.params.now.first_lines }
@@ -336,8 +278,7 @@ pub(crate) fn offer_line(
     let Some(alone) = line_alone(rules.params, &rules.bound, tried.penalty, &line) else {
         return judgement;
     };
-    let line = offered_line(rules.params, tried.place, alone);
-    offer_best(row, table, live, rules.params, &line);
+    offer_best(row, table, live, rules.params, tried.place, alone);
     Judgement {
         offered: true,
         ..judgement
@@ -352,17 +293,16 @@ fn offer_each_waiting(
     table: &[Entry],
     lives: &[Live],
     params: &Params,
-    line: OfferedLine,
+    place: usize,
+    alone: LineCost,
 )
-    requires can { CanOfferWaiting params.now row.old.items table.now lives.now line.place }
-    requires costs_bounded { IsSmallAlone line.alone }
-    requires least { IsLeastLine params.now line.alone line.least }
-    requires line_bounded { IsSmallLine line.least }
-    ensures row { IsOfferingEach table.now params.now line.alone lives.now line.place row.old.items row.new.items }
+    requires can { CanOfferWaiting params.now row.old.items table.now lives.now place }
+    requires costs_bounded { IsSmallAlone alone }
+    ensures row { IsOfferingEach table.now params.now alone lives.now place row.old.items row.new.items }
 {
     for index in 0..lives.len() {
         let live = &lives[index];
-        offer_best(row, table, live, params, &line);
+        offer_best(row, table, live, params, place, alone);
     }
 }
 
@@ -388,7 +328,6 @@ pub(crate) fn offer_waiting(
     let Some(alone) = line_alone(rules.params, &rules.bound, penalty, &LineFit::LOOSEST) else {
         return false;
     };
-    let line = offered_line(rules.params, place, alone);
-    offer_each_waiting(row, table, lives, rules.params, line);
+    offer_each_waiting(row, table, lives, rules.params, place, alone);
     true
 }

@@ -1,15 +1,11 @@
 -- Entries are compared number by number.
-use Rattle.std.proofs.Common.{◌≡◌, [], ◌∷◌, true, false, ap, subst, arith}
+use Rattle.std.proofs.Common.{◌≡◌, [], ◌∷◌, subst}
 use Rattle.std.proofs.Math.Logic.{inl, inr}
-use Rattle.std.specs.Prelude.{ℤ, ◌+ℤ◌, ◌<ℤ◌, ◌≤ℤ◌, not}
-use Rattle.std.specs.Int.Signed.{lt_z, lt_z_yes, lt_z_no}
-use Rattle.std.proofs.lemmas.Float.{T_from_true}
-use Rattle.std.proofs.lemmas.Int.{ints}
+use Rattle.std.specs.Prelude.{◌<ℤ◌}
 use Rattle.break_lines.specs.declared.state.BreakState.{BreakState}
-use Rattle.break_lines.specs.declared.state.LineCost.{LineCost}
 use Rattle.break_lines.specs.Orders.{NotAfter}
 use Rattle.break_lines.specs.Problems.{tie_numbers}
-use Rattle.break_lines.specs.Tables.{Entry, compared_numbers, AreBelow, IsFirst}
+use Rattle.break_lines.specs.Tables.{Entry, compared_numbers, IsFirst}
 use Rattle.break_lines.proofs.Dictionary.{not_after_refl, not_after_later}
 
 pub first_demerits : (a b : Entry) → a.overhang ≡ b.overhang → a.demerits <ℤ b.demerits → NotAfter (compared_numbers a) (compared_numbers b)
@@ -55,25 +51,3 @@ first_same a b overhang demerits end from =
             (not_after_refl (tie_numbers (a.end ∷ a.from ∷ [])))),
       ),
     )
-
--- Costs that are compared after a line was added to one of them.
-pub below_demerits :
-    (e other : Entry) (line : LineCost) (x y : ℤ)
-    → lt_z x y ≡ true → x ≡ e.demerits → y ≡ other.demerits +ℤ line.demerits → e.overhang ≡ other.overhang +ℤ line.overhang → AreBelow e other line
-below_demerits e other line x y is left right overhang =
-    let less : x <ℤ y = lt_z_yes (T_from_true (lt_z x y) is) in
-    inr (overhang, omega (arith, ints))
-
-pub not_below_demerits :
-    (e other : Entry) (line : LineCost) (x y : ℤ)
-    → lt_z x y ≡ false → x ≡ e.demerits → y ≡ other.demerits +ℤ line.demerits → e.overhang ≡ other.overhang +ℤ line.overhang → AreBelow e other line → ⊥
-not_below_demerits e other line x y is left right overhang (inl less) = omega (arith, ints)
-not_below_demerits e other line x y is left right overhang (inr same) =
-    let most : y ≤ℤ x = lt_z_no (T_from_true (not (lt_z x y)) (ap not is)) in
-    let less = same.1 in
-    omega (arith, ints)
-
-pub not_below_overhang :
-    (e other : Entry) (line : LineCost) → (other.overhang +ℤ line.overhang) <ℤ e.overhang → AreBelow e other line → ⊥
-not_below_overhang e other line more (inl less) = omega (arith, ints)
-not_below_overhang e other line more (inr same) = let at = same.0 in omega (arith, ints)

@@ -1,20 +1,26 @@
 -- Even lists: the places next to one another decide for all.
-use Rattle.std.proofs.Common.{◌≡◌, ◌∙◌, ℕ, zero, suc, ◌+◌, ◌-◌, ◌<◌, ◌≤◌, min, List, length, take, drop, ap, sym, subst, arith, Some}
-use Rattle.std.specs.Prelude.{slice_get}
+use Rattle.std.proofs.Common.{◌≡◌, ◌∙◌, ℕ, zero, suc, ◌+◌, ◌-◌, ◌<◌, ◌≤◌, min, Bool, true, false, List, [], ◌∷◌, length, take, drop, refl, ap, sym, subst, arith, Some}
+use Rattle.std.specs.Prelude.{ℤ, pos, negsuc, int_lt, ◌≤ℤ◌, ◌||◌, slice_get, if◌then◌else◌}
+use Rattle.std.specs.List.{list_any}
 use Rattle.std.proofs.Math.Logic.{◌⊎◌, inl, inr}
 use Rattle.std.proofs.lemmas.Int.{ints}
 use Rattle.std.proofs.lemmas.Bool.{cases_lt}
 use Rattle.node_core.specs.declared.tree.Node.{Node}
+use Rattle.node_core.specs.declared.tree.Node.TheVariants as nodes
+use Rattle.node_core.specs.declared.tree.Order.{Order}
+use Rattle.node_core.specs.declared.tree.Order.TheVariants.{Normal, Fil, Fill, Filll}
+use Rattle.pack_core.specs.Items.{is_order, stretch_in}
+use Rattle.pack_core.specs.Totals.{total}
 use Rattle.break_lines.specs.declared.sums.Sums.{Sums}
 use Rattle.break_lines.specs.declared.mark.MeasuredBreak.{MeasuredBreak}
 use Rattle.break_lines.specs.Legal.{legal_places}
 use Rattle.break_lines.specs.LineItems.{sums_of, first_item_kept, minus}
 use Rattle.break_lines.specs.Facts.{facts_of, position_of, begins_at}
-use Rattle.break_lines.specs.Private.Marks.{measured_break, marks_of, no_sums, GoesOnEvenly}
+use Rattle.break_lines.specs.Private.Marks.{measured_break, marks_of, no_sums, has_negative_stretch, GoesOnEvenly, GoesOnInWidth}
 use Rattle.break_lines.specs.Even.{Covers, IsEven}
 use Rattle.break_lines.proofs.KeptSums.{kept_sums, kept_nothing, kept_some}
 use Rattle.break_lines.proofs.Places.{rising_places, begins_some, begins_before}
-use Rattle.break_lines.proofs.Marked.{place_is, begin_is, turned}
+use Rattle.break_lines.proofs.Marked.{start_is, place_is, begin_is, count_is, turned}
 use Rattle.break_lines.proofs.Rising.{first_same}
 
 -- The sums over the items before a position.
@@ -129,6 +135,115 @@ pub goes_on_next :
     → slice_get marks a ≡ Some x → slice_get marks b ≡ Some y → GoesOnEvenly x y → GoesOn list a
 goes_on_next list marks a b x y is next within here there evenly =
     goes_on list marks a x y is (omega (arith, within, next)) here (ap (slice_get marks) (sym next) ∙ there) evenly
+
+-- Where no glue has negative stretch, more items stretch at least as much, in each order.
+stretch_one : (order : Order) (x : Node) → has_negative_stretch x ≡ false → pos 0 ≤ℤ stretch_in order x
+stretch_one order (nodes.Glyph glyph) grows = omega (arith, ints)
+stretch_one order (nodes.FontKern width) grows = omega (arith, ints)
+stretch_one order (nodes.Kern width) grows = omega (arith, ints)
+stretch_one order (nodes.Penalty penalty) grows = omega (arith, ints)
+stretch_one order (nodes.Rule rule) grows = omega (arith, ints)
+stretch_one order (nodes.Special text) grows = omega (arith, ints)
+stretch_one order (nodes.Box shift b) grows = omega (arith, ints)
+stretch_one order (nodes.Glue glue) grows = cases (is_order order glue.stretch_order) (not_below glue.stretch grows)
+  where
+    not_below : (z : ℤ) → int_lt z (pos 0) ≡ false → pos 0 ≤ℤ z
+    not_below (pos n) is = omega (arith, ints)
+    not_below (negsuc n) is = absurd (cc)
+
+    cases : (b : Bool) → pos 0 ≤ℤ glue.stretch → pos 0 ≤ℤ (if b then glue.stretch else pos 0)
+    cases true grown = grown
+    cases false grown = omega (arith, ints)
+
+none_left : (a b : Bool) → (a || b) ≡ false → a ≡ false
+none_left true b is = is
+none_left false b is = refl
+
+none_right : (a b : Bool) → (a || b) ≡ false → b ≡ false
+none_right true b is = absurd (cc)
+none_right false b is = is
+
+grown_all : (order : Order) (list : List Node) → list_any has_negative_stretch list ≡ false → pos 0 ≤ℤ total (stretch_in order) list
+grown_all order [] grows = omega (arith, ints)
+grown_all order (x ∷ rest) grows =
+    omega (
+      arith,
+      ints,
+      stretch_one order x (none_left (has_negative_stretch x) (list_any has_negative_stretch rest) grows),
+      grown_all order rest (none_right (has_negative_stretch x) (list_any has_negative_stretch rest) grows),
+    )
+
+grown_rest :
+    (order : Order) (n : ℕ) (list : List Node) → list_any has_negative_stretch list ≡ false
+    → total (stretch_in order) (drop n list) ≤ℤ total (stretch_in order) list
+grown_rest order zero list grows = omega (arith, ints)
+grown_rest order (suc n) [] grows = omega (arith, ints)
+grown_rest order (suc n) (x ∷ rest) grows =
+    omega (
+      arith,
+      ints,
+      stretch_one order x (none_left (has_negative_stretch x) (list_any has_negative_stretch rest) grows),
+      grown_rest order n rest (none_right (has_negative_stretch x) (list_any has_negative_stretch rest) grows),
+    )
+
+grown_from :
+    (order : Order) (a b : ℕ) (list : List Node) → a ≤ b → list_any has_negative_stretch list ≡ false
+    → total (stretch_in order) (drop b list) ≤ℤ total (stretch_in order) (drop a list)
+grown_from order zero b list later grows = grown_rest order b list grows
+grown_from order (suc a) zero list later grows = absurd (omega (arith, later))
+grown_from order (suc a) (suc b) [] later grows = omega (arith, ints)
+grown_from order (suc a) (suc b) (x ∷ rest) later grows =
+    grown_from order a b rest (omega (arith, later)) (none_right (has_negative_stretch x) (list_any has_negative_stretch rest) grows)
+
+grown_covers :
+    (list : List Node) (a b : ℕ) → a ≤ b → list_any has_negative_stretch list ≡ false
+    → (sums_of (drop b list)).width ≤ℤ (sums_of (drop a list)).width → Covers (sums_of (drop a list)) (sums_of (drop b list))
+unfolding sums_of
+grown_covers list a b later grows wider =
+    record {
+      width = wider;
+      stretch = grown_from Normal a b list later grows;
+      fil = grown_from Fil a b list later grows;
+      fill = grown_from Fill a b list later grows;
+      filll = grown_from Filll a b list later grows;
+    }
+
+-- Then the widths of two marks decide.
+grown_evenly :
+    (list : List Node) (p q begin : ℕ) (x y : MeasuredBreak) → list_any has_negative_stretch list ≡ false → p ≤ q → p ≤ begin
+    → x.from_position ≡ sums_of (drop p list) → x.from_begin ≡ sums_of (drop begin list) → x.begin ≡ begin
+    → y.from_position ≡ sums_of (drop q list) → y.position ≡ q → GoesOnInWidth x y → GoesOnEvenly x y
+grown_evenly list p q begin x y grows later begins from_position from_begin begin_is next next_is wide =
+    record {
+      dropped = both x.from_position x.from_begin p begin from_position from_begin begins wide.dropped;
+      line = λ begun. both x.from_begin y.from_position begin q from_begin next (omega (arith, begun, begin_is, next_is)) (wide.line begun);
+      passed = λ early. both x.from_position y.from_position p q from_position next later (wide.passed early);
+    }
+  where
+    both :
+        (s t : Sums) (a b : ℕ) → s ≡ sums_of (drop a list) → t ≡ sums_of (drop b list) → a ≤ b → t.width ≤ℤ s.width → Covers s t
+    both s t a b is other after wider =
+        subst (λ z. Covers z t) (sym is)
+        (subst (Covers (sums_of (drop a list))) (sym other)
+        (grown_covers list a b after grows (subst (λ z. z.width ≤ℤ (sums_of (drop a list)).width) other (subst (λ z. t.width ≤ℤ z.width) is wider))))
+
+pub goes_on_grown :
+    (list : List Node) (marks : List MeasuredBreak) (a b : ℕ) (x y : MeasuredBreak) → marks ≡ marks_of list → b ≡ a + 1 → b < length marks
+    → slice_get marks a ≡ Some x → slice_get marks b ≡ Some y → list_any has_negative_stretch list ≡ false → GoesOnInWidth x y → GoesOnEvenly x y
+goes_on_grown list marks zero b x y is next within here there grows wide =
+    let mark = start_is list marks x is here in
+    let to = place_is list marks b y is (omega (arith, next)) within there in
+    grown_evenly list 0 y.position 0 x y grows (omega arith) (omega arith) (ap (λ m. m.from_position) mark) (ap (λ m. m.from_begin) mark)
+    (ap (λ m. m.begin) mark) (ap (λ m. m.from_position) to ∙ ap (λ k. sums_of (drop k list)) (sym (ap (λ m. m.position) to))) refl wide
+goes_on_grown list marks (suc n) b x y is next within here there grows wide =
+    let mark = place_is list marks (suc n) x is (omega arith) (omega (arith, within, next)) here in
+    let to = place_is list marks b y is (omega (arith, next)) within there in
+    let few = count_is list marks is in
+    let rises = rising_places list (suc n) b (omega arith) (omega (arith, next)) (omega (arith, within, few)) in
+    grown_evenly list (position_of list (suc n)) y.position x.begin x y grows
+    (omega (arith, rises.0, ap (λ m. m.position) to)) (omega (arith, ap (λ m. m.begin) mark))
+    (ap (λ m. m.from_position) mark) (ap (λ m. m.from_begin) mark ∙ ap (λ k. sums_of (drop k list)) (sym (ap (λ m. m.begin) mark))) refl
+    (ap (λ m. m.from_position) to ∙ ap (λ k. sums_of (drop k list)) (sym (ap (λ m. m.position) to))) refl wide
 
 -- The sums over the items of a line, by where it begins.
 line_sums :

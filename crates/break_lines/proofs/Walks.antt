@@ -22,7 +22,7 @@ use Rattle.break_lines.specs.declared.walk.BreakWalk.{BreakWalk}
 use Rattle.break_lines.specs.Legal.{is_dropped, up_to, is_legal, is_break, node_before, legal_places, penalty_of}
 use Rattle.break_lines.specs.LineItems.{sums_of, next_kept}
 use Rattle.break_lines.specs.Facts.{refusal}
-use Rattle.break_lines.specs.Private.Marks.{amounts_of, plus, no_sums, measured_break, width_in_run, HasMeasuredFrom}
+use Rattle.break_lines.specs.Private.Marks.{amounts_of, plus, no_sums, measured_break, width_in_run, has_negative_stretch, HasMeasuredFrom}
 use Rattle.break_lines.specs.Private.SmallMarks.{IsPrefix, IsSmallMark, AreSmallMarks}
 use Rattle.break_lines.proofs.Amounts.{wider}
 use Rattle.break_lines.proofs.Places.{filter_passed, filter_refused, count_passed, lead_dropped, lead_kept, lead_end}
@@ -117,6 +117,25 @@ run_amounts (nodes.Box shift b) w is = absurd (cc)
 pub run_sums : (x : Node) (w : ℤ) (s : Sums) → width_in_run x ≡ Some w → record s { width = s.width +ℤ w } ≡ plus s (amounts_of x)
 run_sums x w s is = wider s w ∙ ap (plus s) (sym (run_amounts x w is))
 
+pub kept_grows : (x : Node) → is_dropped x ≡ false → has_negative_stretch x ≡ false
+unfolding is_dropped
+kept_grows (nodes.Glyph glyph) kept = refl
+kept_grows (nodes.FontKern width) kept = refl
+kept_grows (nodes.Kern width) kept = absurd (cc)
+kept_grows (nodes.Glue glue) kept = absurd (cc)
+kept_grows (nodes.Penalty penalty) kept = absurd (cc)
+kept_grows (nodes.Rule rule) kept = refl
+kept_grows (nodes.Special text) kept = refl
+kept_grows (nodes.Box shift b) kept = refl
+
+-- With one more item there is still no glue with negative stretch.
+pub grows_more :
+    (list : List Node) (i : ℕ) (x : Node) → i < length list → x ≡ get_or list i x → has_negative_stretch x ≡ false
+    → list_any has_negative_stretch (drop (i + 1) list) ≡ false → list_any has_negative_stretch (drop i list) ≡ false
+grows_more list i x within is grows rest =
+    let same = ap (list_any has_negative_stretch) (rest_is list i x within is) in
+    cc
+
 -- With one more item there is still no glue that shrinks in an infinite order.
 pub finite_more :
     (list : List Node) (i : ℕ) (x : Node) → i < length list → x ≡ get_or list i x → shrinks_infinitely x ≡ false
@@ -165,6 +184,7 @@ one_kept list i x walk sums within is kept more small old = record {
   from_begin = λ other. absurd (other refl);
   small_begin = old.small_begin;
   finite = finite_more list i x within is (kept_finite x kept) old.finite;
+  grows = λ on. grows_more list i x within is (kept_grows x kept) (old.grows on);
 }
 
 -- The sums from the first item on that is not dropped.
@@ -200,6 +220,9 @@ none_left list = ap sums_of (sym (drop_of_length-le list (omega arith)))
 
 pub none_dropped : (list : List Node) → list_any shrinks_infinitely (drop (length list) list) ≡ false
 none_dropped list = ap (list_any shrinks_infinitely) (drop_of_length-le list (omega arith))
+
+pub none_negative : (list : List Node) → list_any has_negative_stretch (drop (length list) list) ≡ false
+none_negative list = ap (list_any has_negative_stretch) (drop_of_length-le list (omega arith))
 
 -- The mark of the end.
 pub end_mark :

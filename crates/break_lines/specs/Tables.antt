@@ -1,5 +1,5 @@
 -- The table of the best ways so far, with one entry for each state that can be reached (own; `IsSmallLine` bounds the costs of a line).
-use Rattle.std.specs.Prelude.{◌≡◌, ◌<◌, ◌≤◌, ◌⊎◌, ◌+◌, ◌*◌, ◌^◌, ◌+ℤ◌, ◌<ℤ◌, ◌++◌, ℕ, ℤ, pos, nat_le, if◌then◌else◌, List, [], ◌∷◌, length, slice_get}
+use Rattle.std.specs.Prelude.{◌≡◌, ◌<◌, ◌≤◌, ◌⊎◌, ◌+◌, ◌*◌, ◌^◌, ◌+ℤ◌, ◌++◌, ℕ, ℤ, pos, nat_le, if◌then◌else◌, List, [], ◌∷◌, length, slice_get}
 use Rattle.std.specs.Prelude.{set, Option, Some, None}
 use Rattle.scaled_core.specs.Dimensions.{Within}
 use Rattle.break_lines.specs.declared.state.BreakState.{BreakState}
@@ -43,12 +43,6 @@ extended_entry cut e index place line =
 -- The numbers by which entries for one place are compared.
 abbrev pub compared_numbers : Entry → List ℤ
 compared_numbers e = e.overhang ∷ e.demerits ∷ tie_numbers (e.end ∷ e.from ∷ [])
-
--- The costs of an entry are below those of another one with a line added: the overhang counts first, then the demerits.
-abbrev pub AreBelow : Entry → Entry → LineCost → Type 0
-AreBelow e other line =
-    (e.overhang <ℤ (other.overhang +ℤ line.overhang))
-    ⊎ ((e.overhang ≡ other.overhang +ℤ line.overhang) × (e.demerits <ℤ (other.demerits +ℤ line.demerits)))
 
 -- State s comes before state t in the order, whatever follows them.
 abbrev pub IsFirst : BreakState → BreakState → Type 0

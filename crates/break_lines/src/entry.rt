@@ -2,7 +2,7 @@
 
 ghost use Rattle.std.specs.Prelude.{◌≡◌, ◌<◌, ◌≤◌, true, false, Some};
 ghost use Rattle.break_lines.specs.Orders.{NotAfter};
-ghost use Rattle.break_lines.specs.Tables.{Entry, first_entry, extended_entry, compared_numbers, AreBelow, IsSmallLine, IsKept};
+ghost use Rattle.break_lines.specs.Tables.{Entry, first_entry, extended_entry, compared_numbers, IsSmallLine, IsKept};
 ghost use Rattle.break_lines.specs.Problems.{max_places};
 
 use crate::state::{BreakState, LineCost, order};
@@ -123,23 +123,6 @@ impl Entry {
                 Ordering::Equal => true,
             },
         }
-    }
-
-    /// Whether the costs of this entry are below those of another one with a line added: the overhang counts first, then the demerits.
-    #[inline]
-    pub fn is_below(self, other: Entry, line: LineCost) -> bool
-        requires line_bounded { IsSmallLine line }
-        ensures below { result ≡ true → AreBelow self other line }
-        ensures not_below { result ≡ false → AreBelow self other line → ⊥ }
-    {
-        let overhang = other.overhang + line.overhang;
-        if self.overhang < overhang {
-            return true;
-        }
-        if self.overhang > overhang {
-            return false;
-        }
-        self.demerits < other.demerits + line.demerits
     }
 
     /// The better one of two entries: this one, unless the other one is strictly better.

@@ -37,7 +37,7 @@ pub use cost::{Bound, LineFit, fit_line, is_loosest, line_after, line_alone};
 pub use entry::Entry;
 pub use fault::BreakFault;
 pub use group::ActiveGroup;
-pub use list::refusal;
+pub use list::{MAX_PLACES, refusal};
 pub use list_meter::ListMeter;
 pub use meter::{Breakpoint, Meter};
 pub use row::{empty_row, flush_row, offer, put};

@@ -5,6 +5,7 @@ ghost use Rattle.std.specs.List.{list_any};
 ghost use Rattle.node_core.specs.Nodes.{max_nodes};
 ghost use Rattle.break_lines.specs.Legal.{is_dropped, is_kept, is_glue, is_break, node_before, is_legal, legal_places, penalty_of};
 ghost use Rattle.break_lines.specs.Facts.{refusal};
+ghost use Rattle.break_lines.specs.Private.Marks.{has_negative_stretch};
 ghost use Rattle.node_core.specs.Classes.{shrinks_infinitely};
 
 use crate::fault::BreakFault;
@@ -94,6 +95,16 @@ pub fn refusal(nodes: &[Node]) -> Option<BreakFault>
         return Some(BreakFault::TooManyBreaks);
     }
     None
+}
+
+/// Whether an item is glue whose stretch is negative.
+pub fn has_negative_stretch(node: &Node) -> bool
+    ensures { result ≡ has_negative_stretch node.now }
+{
+    match node {
+        Node::Glue(glue) => glue.stretch.get() < 0,
+        _ => false,
+    }
 }
 
 /// The penalty of a break at a place: -10000 at the end, which is a forced break, and 0 at glue and kerns.

@@ -20,7 +20,7 @@ use crate::list::{no_trials, refusal};
 use crate::mark::MeasuredBreak;
 use crate::meter::{Breakpoint, Meter};
 use crate::steady::is_steady;
-use crate::walk::marks_of;
+use crate::walk::{MarkedList, marks_of};
 use node_core::Node;
 use scaled_core::Dimen;
 use std::alloc::{AllocError, Global};
@@ -53,12 +53,16 @@ impl<'a> ListMeter<'a> {
         ensures nodes { IfOk result (λ found. IfSome found (λ meter. meter.nodes.now ≡ nodes.now)) }
         ensures trials { IfOk result (λ found. IfSome found (λ meter. (place : ℕ) → get_or meter.trials.items place 0 ≡ 0)) }
     {
-        let Some(marks) = marks_of(alloc, nodes)? else {
+        let Some(marked) = marks_of(alloc, nodes)? else {
             return Ok(None);
         };
+        let MarkedList {
+            marks,
+            stretch_grows,
+        } = marked;
         let trials = no_trials(alloc, marks.len())?;
         let steady = is_steady(&marks);
-        let even = is_even(&marks);
+        let even = is_even(&marks, stretch_grows);
         Ok(Some(ListMeter {
             nodes,
             marks,

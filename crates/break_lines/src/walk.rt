@@ -1,25 +1,44 @@
 //! The walk that measures a list, from its end to its beginning.
 
-ghost use Rattle.std.specs.Prelude.{◌≡◌, ◌≢◌, ◌+◌, ◌<◌, ◌≤◌, true, false, length, get_or, vec_capacity, vec_len, IsSome, IfOk, OnOk, MatchOption};
+ghost use Rattle.std.specs.Prelude.{◌≡◌, ◌≢◌, ◌+◌, ◌<◌, ◌≤◌, true, false, length, get_or, vec_capacity, vec_len, IfSome, IsSome, IfOk, OnOk};
+ghost use Rattle.std.specs.Prelude.{MatchOption};
+ghost use Rattle.std.specs.List.{list_any};
 ghost use Rattle.node_core.specs.Nodes.{max_nodes};
 ghost use Rattle.break_lines.specs.Facts.{refusal};
-ghost use Rattle.break_lines.specs.Private.Marks.{HasMeasuredFrom, IsMarked};
+ghost use Rattle.break_lines.specs.Private.Marks.{HasMeasuredFrom, IsMarked, has_negative_stretch};
 
 use crate::item_sums::{Sums, add_item, width_in_run};
-use crate::list::{MAX_PLACES, is_dropped, is_legal, penalty_at};
+use crate::list::{MAX_PLACES, has_negative_stretch, is_dropped, is_legal, penalty_at};
 use crate::mark::MeasuredBreak;
 use node_core::Node;
 use std::alloc::{AllocError, Global};
 
 /// The state of a walk over the items from some index to the end: the marks of the legal places there, in reverse order, the sums over these items,
 /// the index of the first of them that is not dropped at the beginning of a line, and the sums from that item on. `from_begin` is set only if an item
-/// before `begin` was passed.
+/// before `begin` was passed. `stretch_grows` says that none of the items is glue with negative stretch.
 #[derive(Drop)]
 struct BreakWalk {
     marks: Vec<MeasuredBreak>,
     sums: Sums,
     begin: usize,
     from_begin: Sums,
+    stretch_grows: bool,
+}
+
+/// The marks of the start and of the legal places of a list, in order, and whether it is known that none of its glue has negative stretch.
+#[derive(Drop)]
+pub struct MarkedList {
+    pub marks: Vec<MeasuredBreak>,
+    pub stretch_grows: bool,
+}
+
+/// Whether the stretch of all glue is known not to be negative, with one more item.
+#[inline(always)]
+fn still_grows(grows: bool, node: &Node) -> bool
+    ensures before { result ≡ true → grows ≡ true }
+    ensures here { result ≡ true → has_negative_stretch node.now ≡ false }
+{
+    grows && !has_negative_stretch(node)
 }
 
 /// Makes space for one more mark. There nearly always is some, and then this is one test.
@@ -54,6 +73,7 @@ impl BreakWalk {
             sums: Sums::ZERO,
             begin: nodes.len(),
             from_begin: Sums::ZERO,
+            stretch_grows: true,
         })
     }
 
@@ -70,7 +90,7 @@ impl BreakWalk {
     }
 
     /// Passes the glyphs and font kerns directly before the items that were passed, and returns the index of the first of them. They are most items
-    /// of a text, and each changes only the width; so they have a loop of their own.
+    /// of a text, and each changes only the width; so they have a loop of their own, which keeps what changes out of memory.
     fn pass_run(&mut self, nodes: &[Node], end: usize) -> usize
         requires list_bounded { length nodes.now ≤ max_nodes }
         requires end_bounded { end ≤ length nodes.now }
@@ -79,14 +99,18 @@ impl BreakWalk {
         ensures begin_bounded { result ≤ end }
     {
         let mut index = end;
+        let mut width = self.sums.width;
+        let mut begin = self.begin;
         while index > 0 {
-            let Some(width) = width_in_run(&nodes[index - 1]) else {
-                return index;
+            let Some(more) = width_in_run(&nodes[index - 1]) else {
+                break;
             };
             index -= 1;
-            self.sums.width += width;
-            self.begin = index;
+            width += more;
+            begin = index;
         }
+        self.sums.width = width;
+        self.begin = begin;
         index
     }
 
@@ -108,6 +132,7 @@ impl BreakWalk {
             return Ok(false);
         }
         self.from_begin = *self.line_start(index + 1);
+        self.stretch_grows = still_grows(self.stretch_grows, node);
         add_item(&mut self.sums, node);
         if !is_legal(nodes, index) {
             return Ok(true);
@@ -127,14 +152,16 @@ impl BreakWalk {
     }
 
     /// The marks of the start and of the legal places, in order, after a walk over all items.
-    fn into_marks(self, nodes: &[Node]) -> Result<Vec<MeasuredBreak>, AllocError>
+    fn into_marks(self, nodes: &[Node]) -> Result<MarkedList, AllocError>
         requires list_bounded { length nodes.now ≤ max_nodes }
         requires walked { HasMeasuredFrom nodes.now 0 self }
-        ensures { IfOk result (λ marks. IsMarked nodes.now marks.items) }
+        ensures marks { IfOk result (λ marked. IsMarked nodes.now marked.marks.items) }
+        ensures grows { IfOk result (λ marked. marked.stretch_grows ≡ true → list_any has_negative_stretch nodes.now ≡ false) }
     {
         let BreakWalk {
             mut marks,
             sums,
+            stretch_grows,
             ..
         } = self;
         marks.push(MeasuredBreak {
@@ -145,15 +172,19 @@ impl BreakWalk {
             penalty: 0,
         })?;
         marks.reverse();
-        Ok(marks)
+        Ok(MarkedList {
+            marks,
+            stretch_grows,
+        })
     }
 }
 
 /// The marks of the start and of the legal places, in order, or `None` if the list is refused. The walk goes from the end to the beginning: after
 /// passing an item it knows where a line that starts before the item begins, so each mark is complete when it is made.
-pub fn marks_of(alloc: Global, nodes: &[Node]) -> Result<Option<Vec<MeasuredBreak>>, AllocError>
+pub fn marks_of(alloc: Global, nodes: &[Node]) -> Result<Option<MarkedList>, AllocError>
     requires list_bounded { length nodes.now ≤ max_nodes }
-    ensures { IfOk result (λ found. MatchOption found (IsSome (refusal nodes.now)) (λ marks. IsMarked nodes.now marks.items)) }
+    ensures marks { IfOk result (λ found. MatchOption found (IsSome (refusal nodes.now)) (λ marked. IsMarked nodes.now marked.marks.items)) }
+    ensures grows { IfOk result (λ found. IfSome found (λ marked. marked.stretch_grows ≡ true → list_any has_negative_stretch nodes.now ≡ false)) }
 {
     let mut walk = BreakWalk::at_end(alloc, nodes)?;
     let mut index = walk.pass_run(nodes, nodes.len());

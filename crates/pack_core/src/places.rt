@@ -1,6 +1,6 @@
 //! The places of the items of a packed box (after TeX: The Program, part 32, §625 and §634; the ratio is exact).
 
-ghost use Rattle.std.specs.Prelude.{◌≡◌, ◌≤◌, ◌<◌, ◌+◌, ◌^◌, ◌++◌, ◌∷◌, [], List, pos, length};
+ghost use Rattle.std.specs.Prelude.{◌≡◌, ◌≤◌, ◌<◌, ◌+◌, ◌+ℤ◌, ◌^◌, ◌++◌, ◌∷◌, [], List, pos, length};
 ghost use Rattle.scaled_core.specs.Dimensions.{Within};
 ghost use Rattle.node_core.specs.Nodes.{max_nodes, nodes_of};
 ghost use Rattle.node_core.specs.declared.tree.Kind.{Kind};
@@ -75,6 +75,18 @@ impl Cursor {
     {
         self.natural += distance;
         self.passed += 1;
+    }
+
+    /// Passes some items that advance by `distance` scaled points together and have no share in the setting of the list, such as glyphs. At most
+    /// `MAX_NODES` items are passed.
+    pub fn move_over(&mut self, distance: i64, items: u32)
+        requires some { 0 < items }
+        requires items_bounded { self.old.passed + items ≤ max_nodes }
+        requires distance_bounded { Within (2 ^ 31) distance }
+        ensures { self.new ≡ record { natural = self.old.natural +ℤ distance; shares = self.old.shares; passed = self.old.passed + items } }
+    {
+        self.natural += distance;
+        self.passed += items;
     }
 
     /// The current place in a list of this setting, in scaled points from the beginning of the list. Each place is rounded once, from the exact sums,

@@ -1,11 +1,15 @@
 -- The items of a list in order: the state after the first ones.
 use Rattle.std.proofs.Common.{◌≡◌, ◌≢◌, ℕ, zero, suc, ◌+◌, ◌<◌, List, [], ◌∷◌, ◌++◌, length, take, drop, get_or, refl, ap, sym, ◌∙◌, add-one, drop-cons, ◌≤◌, arith}
 use Rattle.std.proofs.lemmas.List.{take_more, length-take-le}
-use Rattle.std.specs.Prelude.{ℤ, pos, ◌+ℤ◌, Bool, true, false, not, ◌&&◌, ◌==◌, Some, slice_get}
+use Rattle.std.specs.Prelude.{ℤ, pos, ◌+ℤ◌, ◌-ℤ◌, Bool, true, false, not, ◌&&◌, ◌==◌, Some, slice_get}
 use Rattle.std.specs.List.{list_all}
 use Rattle.std.proofs.lemmas.List.Folds.{list_all-append}
 use Rattle.std.proofs.lemmas.Bool.{eqb-true}
+use Rattle.std.proofs.lemmas.Int.{ints}
 use Rattle.node_core.specs.declared.tree.Kind.{Kind}
+use Rattle.node_core.specs.declared.tree.Kind.TheVariants.{Horizontal}
+use Rattle.node_core.specs.declared.tree.Glyph.{Glyph}
+use Rattle.page_core.specs.declared.placing.Point.{Point}
 use Rattle.node_core.specs.declared.tree.Setting.{Setting}
 use Rattle.node_core.specs.Items.{Items, none, leaf, box, items_depth}
 use Rattle.node_core.specs.Nodes.{max_nodes, items_of, nodes_of}
@@ -16,13 +20,13 @@ use Rattle.node_core.specs.declared.tree.BoxNode.{BoxNode}
 use Rattle.scaled_core.specs.Dimensions.{fits}
 use Rattle.pack_core.specs.Places.{place}
 use Rattle.pack_core.specs.Cursors.{WalkSums, sums_after, one_more, place_at}
-use Rattle.pack_core.proofs.Walks.{one_more-reached, place-reached, reached-passed}
+use Rattle.pack_core.proofs.Walks.{one_more-reached, reached-more, place-reached, reached-passed}
 use Rattle.page_core.specs.Marks.{ShippedPage, page_v, is_huge, right_at, down_at, list_v, item_h, item_v, box_h, box_v, numbers_at, numbers_after}
 use Rattle.scaled_core.specs.Mark as body
 use Rattle.page_core.specs.DrawnPages.{DrawnPage, marked, group, grouped_page, drawn_after}
 use Rattle.page_core.specs.Placing.{Reaches, marked_of, reference_h, reference_v}
-use Rattle.page_core.specs.Private.Placing.{numbers_between, marked_at}
-use Rattle.page_core.proofs.Walked.{reach_by}
+use Rattle.page_core.specs.Private.Placing.{point_in, numbers_between, marked_at}
+use Rattle.page_core.proofs.Walked.{reach_by, glyph-fits, glyph-sums, marks-glyph}
 
 -- The items from place i on are the item there and those after it.
 pub left_at : (xs : List Node) (i : ℕ) (x : Node) → i < length xs → x ≡ get_or xs i x → drop i xs ≡ x ∷ drop (i + 1) xs
@@ -188,6 +192,59 @@ pub item_marks :
     (b : BoxNode) (h v : ℤ) (before : List Node) (x : Node) (from : WalkSums) (rest found : DrawnPage) → from ≡ sums_after b.kind b.setting before
     → found ≡ marked_at b h v (place_at b.setting from) x rest → found ≡ marked_of b (item_h b h before) (item_v b v before) x rest
 item_marks b h v before x from rest found at is = is ∙ ap (λ here. marked_at b h v here x rest) (reached-place b before from at)
+
+-- The numbers of a glyph of a horizontal list fit where the points before it and after it do, and so those of the items from it on fit exactly where
+-- those of the items after it do.
+pub glyph_passed :
+    (b : BoxNode) (h v : ℤ) (xs : List Node) (i : ℕ) (g : Glyph) (from : WalkSums) (at after : Point ℤ)
+    → i < length xs → nodes.Glyph g ≡ get_or xs i (nodes.Glyph g) → from ≡ sums_after b.kind b.setting (take i xs)
+    → point_in b h v (place_at b.setting from) ≡ Some at
+    → point_in b h v (place_at b.setting (one_more b.kind b.setting from (nodes.Glyph g))) ≡ Some after
+    → list_all fits (numbers_left b h v xs (i + 1)) ≡ list_all fits (numbers_left b h v xs i)
+glyph_passed b h v xs i g from at after within is so here there =
+    let x : Node = nodes.Glyph g in
+    let fit = glyph-fits b h v (place_at b.setting from) (place_at b.setting (one_more b.kind b.setting from x)) at after g here there in
+    rest_of_and true _ _ refl (rest_of_and _ _ _ (item_fits b h v (take i xs) x from true so (sym fit)) (sym (fits_more b h v xs i x within is)))
+
+-- What is drawn of a glyph of a horizontal list and of the items after it.
+pub glyph_drawn :
+    (b : BoxNode) (h v : ℤ) (xs : List Node) (i : ℕ) (g : Glyph) (from : WalkSums) (at : Point ℤ)
+    → b.kind ≡ Horizontal → i < length xs → nodes.Glyph g ≡ get_or xs i (nodes.Glyph g) → from ≡ sums_after b.kind b.setting (take i xs)
+    → point_in b h v (place_at b.setting from) ≡ Some at
+    → drawn_left b h v xs i ≡ marked (body.Glyph (pos g.slot) (pos g.code) at.h at.v) g.width (drawn_left b h v xs (i + 1))
+glyph_drawn b h v xs i g from at across within is so here =
+    let x : Node = nodes.Glyph g in
+    let later = drawn_left b h v xs (i + 1) in
+    let seen = marked_at b h v (place_at b.setting from) x later in
+    drawn_more b h v xs i x within is
+    ∙ (sym (item_marks b h v (take i xs) x from later seen so refl) ∙ marks-glyph b h v (place_at b.setting from) at g later across here)
+
+-- The sums of a walk, from its parts.
+pub sums-are :
+    (r : WalkSums) (natural shares : ℤ) (passed : ℕ) → r.natural ≡ natural → r.shares ≡ shares → r.passed ≡ passed
+    → record { natural = natural; shares = shares; passed = passed } ≡ r
+sums-are r natural shares passed first second third = rw (sym first, sym second, sym third) refl
+
+-- The sums of a walk that has passed a run of glyphs: h goes from `start` to `first` at the first one, and then to `end`.
+pub sums_of_run :
+    (b : BoxNode) (xs : List Node) (i n : ℕ) (g : Glyph) (from moved : WalkSums) (start first end by : ℤ) (count : ℕ)
+    → b.kind ≡ Horizontal → i < length xs → nodes.Glyph g ≡ get_or xs i (nodes.Glyph g) → from ≡ sums_after b.kind b.setting (take i xs)
+    → moved ≡ record { natural = from.natural +ℤ by; shares = from.shares; passed = from.passed + count }
+    → by ≡ end -ℤ start → first ≡ start +ℤ g.width → i + count ≡ n → n ≤ length xs
+    → (sums_after b.kind b.setting (take n xs)).natural ≡ (sums_after b.kind b.setting (take (i + 1) xs)).natural +ℤ (end -ℤ first)
+    → (sums_after b.kind b.setting (take n xs)).shares ≡ (sums_after b.kind b.setting (take (i + 1) xs)).shares
+    → moved ≡ sums_after b.kind b.setting (take n xs)
+sums_of_run b xs i n g from moved start first end by count across within is so step far begin counted short natural shares =
+    let x : Node = nodes.Glyph g in
+    let more = ap (λ (r : WalkSums). one_more b.kind b.setting r x) so ∙ reached-more b.kind b.setting xs i x within is in
+    let sums = glyph-sums b.kind b.setting from g across in
+    let before = ap (λ (r : WalkSums). r.passed) so ∙ (reached-passed b.kind b.setting (take i xs) ∙ length-take-le i xs (omega (arith, within))) in
+    let after = reached-passed b.kind b.setting (take n xs) ∙ length-take-le n xs short in
+    step
+    ∙ sums-are (sums_after b.kind b.setting (take n xs)) _ _ _
+    (omega (arith, ints, natural, ap (λ (r : WalkSums). r.natural) more, sums.0, far, begin))
+    (shares ∙ (sym (ap (λ (r : WalkSums). r.shares) more) ∙ sums.1))
+    (omega (arith, after, before, counted))
 
 -- The item after a glyph or a rule is where h is after it.
 pub reach : (b : BoxNode) (h : ℤ) (before : List Node) (x : Node) → Reaches b.kind (item_h b h before) (item_h b h (before ++ x ∷ [])) x

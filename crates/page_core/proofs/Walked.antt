@@ -303,6 +303,34 @@ pub ends :
 ends b h v from at after g across here there =
     reaches b h v from at after (nodes.Glyph g) here there ∙ ap (λ (kind : Kind). right_at kind at.h g.width) across
 
+-- Where there is a point, its height fits.
+height_fits : (h v : ℤ) (p : Point ℤ) → fitting_point h v ≡ Some p → fits p.v ≡ true
+height_fits h v p is = ap fits (point-is h v p is).1 ∙ by_test (fits h) (fits v) (some_point h v p is)
+  where
+    by_test : (a b : Bool) → (a && b) ≡ true → b ≡ true
+    by_test true b both = both
+    by_test false b both = absurd (cc)
+
+-- The point after a glyph of a horizontal list.
+pub glyph-next :
+    (b : BoxNode) (h v : ℤ) (from : WalkSums) (at : Point ℤ) (g : Glyph) → b.kind ≡ Horizontal → point_in b h v (place_at b.setting from) ≡ Some at
+    → point_in b h v (place_at b.setting (one_more b.kind b.setting from (nodes.Glyph g)))
+    ≡ option_map (level_with at.v) (dimension_of (at.h +ℤ g.width))
+glyph-next b h v from at g across here =
+    sym (rigid_after b h v from at (nodes.Glyph g) refl here)
+    ∙ (ap (λ (kind : Kind). fitting_point (right_at kind at.h (advance kind (nodes.Glyph g))) (down_at kind at.v (advance kind (nodes.Glyph g)))) across
+    ∙ level-point (at.h +ℤ g.width) at.v
+    (height_fits (right_at b.kind h (place_at b.setting from)) (down_at b.kind v (place_at b.setting from)) at here))
+
+-- The sums after a glyph of a horizontal list.
+pub glyph-sums :
+    (kind : Kind) (setting : Setting) (from : WalkSums) (g : Glyph) → kind ≡ Horizontal
+    → ((one_more kind setting from (nodes.Glyph g)).natural ≡ from.natural +ℤ g.width) × ((one_more kind setting from (nodes.Glyph g)).shares ≡ from.shares)
+glyph-sums kind setting from g across = (
+  ap (λ (k : Kind). from.natural +ℤ advance k (nodes.Glyph g)) across,
+  omega (arith, ints, share_glyph setting g),
+)
+
 -- What was drawn in a horizontal list, in a list of a kind that is known to be horizontal.
 pub across-so :
     {D : Type 0} (from to : Kind → DrawnPage → D) (kind : Kind) (seen shown rest : DrawnPage) → kind ≡ Horizontal → seen ≡ shown

@@ -7,16 +7,13 @@ ghost use Rattle.scaled_core.specs.Dimensions.{fits};
 ghost use Rattle.pack_core.specs.Cursors.{one_more, place_at};
 ghost use Rattle.page_core.specs.Marks.{right_at, down_at, list_v};
 ghost use Rattle.page_core.specs.DrawnPages.{DrawnPage};
-ghost use Rattle.node_core.specs.declared.tree.Node.TheVariants as nodes;
-ghost use Rattle.std.specs.Option.{option_map};
-ghost use Rattle.page_core.specs.Private.Placing.{level_with, point_in, numbers_between, marked_at, is_rigid};
+ghost use Rattle.page_core.specs.Private.Placing.{point_in, numbers_between, marked_at, is_rigid};
 ghost use Rattle.page_core.specs.Placing.{IsMarkEnd, marked_in, reference_h, reference_v};
 
 use crate::placing::{
-    PagePoint, PagePosition, PlacedItem, Point, dimension_after, place_item, point_at,
-    position_after,
+    PagePoint, PagePosition, PlacedItem, Point, place_item, point_at, position_after,
 };
-use node_core::{BoxNode, Glyph, Kind, Node};
+use node_core::{BoxNode, Kind, Node};
 use pack_core::{Cursor, advance_of};
 use scaled_core::Dimen;
 
@@ -67,31 +64,6 @@ fn is_rigid(node: &Node) -> bool
         Node::Glue(_) => false,
         _ => true,
     }
-}
-
-/// Moves a cursor past a glyph of a horizontal list at the position `at`, which it has reached, and returns the value of h after it, where that fits.
-#[inline(always)]
-pub fn go_past_glyph(
-    cursor: &mut Cursor,
-    box_node: &BoxNode,
-    begin: &ListOrigin,
-    at: &PagePosition,
-    glyph: &Glyph,
-) -> Option<Dimen>
-    requires kind { box_node.now.kind ≡ Kind.Horizontal }
-    requires items_bounded { cursor.old.passed < max_nodes }
-    requires at { point_in box_node.now begin.now.h begin.now.v (place_at box_node.now.setting cursor.old) ≡ Some at.now }
-    ensures cursor { cursor.new ≡ one_more box_node.now.kind box_node.now.setting cursor.old (nodes.Glyph glyph.now) }
-    ensures here { point_in box_node.now begin.now.h begin.now.v
-        (place_at box_node.now.setting (one_more box_node.now.kind box_node.now.setting cursor.old (nodes.Glyph glyph.now)))
-        ≡ option_map (level_with at.now.v) result }
-{
-    let _kind = box_node.kind;
-    let _h = begin.h;
-    at.numbers_fit();
-    let distance = i64::from(glyph.width.get());
-    cursor.move_on(distance);
-    dimension_after(at.h, distance)
 }
 
 impl ItemWalk {

@@ -1,22 +1,22 @@
 //! The walk over the items of a box and of its inner boxes, which gives each mark to a sink and stops at the first number that does not fit.
 
-ghost use Rattle.std.specs.Prelude.{◌≡◌, ◌<◌, ◌≤◌, [], length, take, drop, true, false, Some, None, is_some, IfOk, IfSome, OnOk, OnSome};
+ghost use Rattle.std.specs.Prelude.{◌≡◌, ◌<◌, ◌≤◌, ◌+ℤ◌, ◌-ℤ◌, [], pos, length, take, drop, true, false, Some, None, is_some};
+ghost use Rattle.std.specs.Prelude.{IfOk, IfSome, OnOk, OnSome};
 ghost use Rattle.std.specs.List.{list_all};
 ghost use Rattle.node_core.specs.Nodes.{max_nodes, items_of};
-ghost use Rattle.scaled_core.specs.Dimensions.{fits};
+ghost use Rattle.scaled_core.specs.Dimensions.{fits, dimension_of};
+ghost use Rattle.scaled_core.specs.Mark as body;
 ghost use Rattle.pack_core.specs.Cursors.{sums_after, one_more, place_at};
 ghost use Rattle.page_core.specs.Marks.{right_at, down_at, list_v, numbers_after, points_and_sizes};
 ghost use Rattle.node_core.specs.declared.tree.Kind.{Kind};
-ghost use Rattle.page_core.specs.DrawnPages.{DrawnPage, blank, grouped_page, drawn_after};
-ghost use Rattle.node_core.specs.declared.tree.Node.TheVariants as nodes;
+ghost use Rattle.page_core.specs.DrawnPages.{DrawnPage, blank, marked, grouped_page, drawn_after};
 ghost use Rattle.page_core.specs.Placing.{Reaches, marked_of, reference_h, reference_v};
 ghost use Rattle.page_core.specs.Private.Placing.{is_blank, level_with, point_in, numbers_between, marked_at};
 
-use crate::item_walk::{ItemWalk, ListOrigin, begin_of, go_past_glyph};
-use crate::placing::{PagePoint, PagePosition, Point, place_item};
+use crate::item_walk::{ItemWalk, ListOrigin, begin_of};
+use crate::placing::{PagePoint, PagePosition, Point, dimension_after, place_item};
 use crate::sink::{BoxRef, MarkSink};
 use node_core::{BoxNode, Glyph, Kind, Node};
-use pack_core::Cursor;
 use scaled_core::Dimen;
 
 /// The items of a list from an index on.
@@ -26,97 +26,70 @@ struct ItemsFrom<'a> {
     from: usize,
 }
 
-/// A place in a run of glyphs of one font: the cursor there, the position (h, v), and the slot of the font.
+/// A place in a run of glyphs of one font: the position (h, v), and the slot of the font.
 #[derive(Clone, Copy, Debug)]
 struct GlyphRun {
-    cursor: Cursor,
     h: Dimen,
     v: Dimen,
     slot: u8,
 }
 
-/// Draws the first glyph of a run, and moves past it. It returns whether the numbers of the glyph fit.
+/// Draws the first glyph of a run, and moves past it. It returns whether the value of h after it fits.
+#[tactic(auto, unfolding(scaled_core::specs::Dimensions::dimension_of))]
 #[inline(always)]
 fn draw_first<B: BoxRef, S: MarkSink<B>>(
     sink: &mut S,
     run: &mut GlyphRun,
-    box_node: &BoxNode,
-    begin: &ListOrigin,
     glyph: &Glyph,
 ) -> Result<bool, S::Fault>
-    requires kind { box_node.now.kind ≡ Kind.Horizontal }
-    requires items_bounded { run.old.cursor.passed < max_nodes }
-    requires at { point_in box_node.now begin.now.h begin.now.v (place_at box_node.now.setting run.old.cursor)
-        ≡ Some (level_with run.old.v run.old.h) }
     requires slot { run.old.slot ≡ glyph.now.slot }
-    ensures cursor { OnOk result (run.new.cursor ≡ one_more box_node.now.kind box_node.now.setting run.old.cursor (nodes.Glyph glyph.now)) }
-    ensures at { IfOk result (λ fit. fit ≡ true → point_in box_node.now begin.now.h begin.now.v (place_at box_node.now.setting run.new.cursor)
-        ≡ Some (level_with run.new.v run.new.h)) }
-    ensures fits { IfOk result (λ fit. fit ≡ list_all fits (numbers_between box_node.now begin.now.h begin.now.v
-        (place_at box_node.now.setting run.old.cursor)
-        (place_at box_node.now.setting (one_more box_node.now.kind box_node.now.setting run.old.cursor (nodes.Glyph glyph.now)))
-        (nodes.Glyph glyph.now))) }
-    ensures mark { IfOk result (λ fit. fit ≡ true → (rest : DrawnPage) → S.drawn_with box_node.now.kind sink.old
-        (marked_at box_node.now begin.now.h begin.now.v (place_at box_node.now.setting run.old.cursor) (nodes.Glyph glyph.now) rest)
-        ≡ S.drawn_with box_node.now.kind sink.new rest) }
+    ensures over { IfOk result (λ fit. fit ≡ false → dimension_of (run.old.h +ℤ glyph.now.width) ≡ None) }
+    ensures end { IfOk result (λ fit. fit ≡ true → dimension_of (run.old.h +ℤ glyph.now.width) ≡ Some run.new.h) }
+    ensures v { run.new.v ≡ run.old.v }
+    ensures mark { IfOk result (λ fit. fit ≡ true → (rest : DrawnPage) → S.drawn_with Kind.Horizontal sink.old
+        (marked (body.Glyph (pos glyph.now.slot) (pos glyph.now.code) run.old.h run.old.v) glyph.now.width rest)
+        ≡ S.drawn_with Kind.Horizontal sink.new rest) }
     ensures is_at { IfOk result (λ fit. fit ≡ true → S.IsAt sink.new run.new.h run.new.v run.new.slot) }
 {
-    let at = Point { h: run.h, v: run.v };
-    let Some(end) = go_past_glyph(&mut run.cursor, box_node, begin, &at, glyph) else {
+    let Some(end) = dimension_after(run.h, i64::from(glyph.width.get())) else {
         return Ok(false);
     };
-    sink.draw_glyph(at, *glyph, end)?;
+    sink.draw_glyph(Point { h: run.h, v: run.v }, *glyph, end)?;
     run.h = end;
     Ok(true)
 }
 
-/// Draws one more glyph of a run, and moves past it, where it has the font of the run, its numbers fit, and the sink takes it without memory. It
-/// returns whether it did.
+/// Draws one more glyph of a run, and moves past it, where it has the font of the run, the value of h after it fits, and the sink takes it without
+/// memory. It returns whether it did.
+#[tactic(auto, unfolding(scaled_core::specs::Dimensions::dimension_of))]
 #[inline(always)]
-fn draw_next<B: BoxRef, S: MarkSink<B>>(
-    sink: &mut S,
-    run: &mut GlyphRun,
-    box_node: &BoxNode,
-    begin: &ListOrigin,
-    glyph: &Glyph,
-) -> bool
-    requires kind { box_node.now.kind ≡ Kind.Horizontal }
-    requires items_bounded { run.old.cursor.passed < max_nodes }
-    requires at { point_in box_node.now begin.now.h begin.now.v (place_at box_node.now.setting run.old.cursor)
-        ≡ Some (level_with run.old.v run.old.h) }
+fn draw_next<B: BoxRef, S: MarkSink<B>>(sink: &mut S, run: &mut GlyphRun, glyph: &Glyph) -> bool
     requires is_at { S.IsAt sink.old run.old.h run.old.v run.old.slot }
-    ensures cursor { result ≡ true → run.new.cursor ≡ one_more box_node.now.kind box_node.now.setting run.old.cursor (nodes.Glyph glyph.now) }
-    ensures at { result ≡ true → point_in box_node.now begin.now.h begin.now.v (place_at box_node.now.setting run.new.cursor)
-        ≡ Some (level_with run.new.v run.new.h) }
-    ensures fits { result ≡ true → list_all fits (numbers_between box_node.now begin.now.h begin.now.v
-        (place_at box_node.now.setting run.old.cursor)
-        (place_at box_node.now.setting (one_more box_node.now.kind box_node.now.setting run.old.cursor (nodes.Glyph glyph.now)))
-        (nodes.Glyph glyph.now)) ≡ true }
-    ensures mark { result ≡ true → (rest : DrawnPage) → S.drawn_with box_node.now.kind sink.old
-        (marked_at box_node.now begin.now.h begin.now.v (place_at box_node.now.setting run.old.cursor) (nodes.Glyph glyph.now) rest)
-        ≡ S.drawn_with box_node.now.kind sink.new rest }
+    ensures end { result ≡ true → dimension_of (run.old.h +ℤ glyph.now.width) ≡ Some run.new.h }
+    ensures v { run.new.v ≡ run.old.v }
+    ensures mark { result ≡ true → (rest : DrawnPage) → S.drawn_with Kind.Horizontal sink.old
+        (marked (body.Glyph (pos glyph.now.slot) (pos glyph.now.code) run.old.h run.old.v) glyph.now.width rest)
+        ≡ S.drawn_with Kind.Horizontal sink.new rest }
     ensures is_at { result ≡ true → S.IsAt sink.new run.new.h run.new.v run.new.slot }
     ensures stays { result ≡ false → run.new ≡ run.old }
-    ensures same { result ≡ false → (rest : DrawnPage) → S.drawn_with box_node.now.kind sink.old rest ≡ S.drawn_with box_node.now.kind sink.new rest }
+    ensures same { result ≡ false → (rest : DrawnPage) → S.drawn_with Kind.Horizontal sink.old rest ≡ S.drawn_with Kind.Horizontal sink.new rest }
 {
     if glyph.slot != run.slot {
         return false;
     }
-    let at = Point { h: run.h, v: run.v };
-    let mut cursor = run.cursor;
-    let Some(end) = go_past_glyph(&mut cursor, box_node, begin, &at, glyph) else {
+    let Some(end) = dimension_after(run.h, i64::from(glyph.width.get())) else {
         return false;
     };
-    if !sink.draw_next(at, *glyph, end) {
+    if !sink.draw_next(Point { h: run.h, v: run.v }, *glyph, end) {
         return false;
     }
-    run.cursor = cursor;
     run.h = end;
     true
 }
 
 /// Draws the glyphs of a run from the item at an index on, as far as `draw_next` does, and moves past them. It returns the index of the item after
-/// them. Most items are such glyphs: none needs a movement or a font, and in a loop of their own their place stays in registers.
+/// them. Most items are such glyphs: none needs a movement or a font, and a loop that counts nothing but the index and the value of h keeps both in
+/// registers.
 #[inline(always)]
 fn draw_run<B: BoxRef, S: MarkSink<B>>(
     sink: &mut S,
@@ -127,16 +100,17 @@ fn draw_run<B: BoxRef, S: MarkSink<B>>(
 ) -> usize
     requires kind { box_node.now.kind ≡ Kind.Horizontal }
     requires within { left.from ≤ length left.items.now }
-    requires items_bounded { length left.items.now ≤ max_nodes }
-    requires cursor { run.old.cursor ≡ sums_after box_node.now.kind box_node.now.setting (take left.from left.items.now) }
-    requires at { point_in box_node.now begin.now.h begin.now.v (place_at box_node.now.setting run.old.cursor)
-        ≡ Some (level_with run.old.v run.old.h) }
+    requires at { point_in box_node.now begin.now.h begin.now.v (place_at box_node.now.setting
+        (sums_after box_node.now.kind box_node.now.setting (take left.from left.items.now))) ≡ Some (level_with run.old.v run.old.h) }
     requires is_at { S.IsAt sink.old run.old.h run.old.v run.old.slot }
     ensures onward { left.entry.from ≤ result }
     ensures within { result ≤ length left.entry.items.now }
-    ensures cursor { run.new.cursor ≡ sums_after box_node.now.kind box_node.now.setting (take result left.entry.items.now) }
-    ensures at { point_in box_node.now begin.now.h begin.now.v (place_at box_node.now.setting run.new.cursor)
-        ≡ Some (level_with run.new.v run.new.h) }
+    ensures natural { (sums_after box_node.now.kind box_node.now.setting (take result left.entry.items.now)).natural
+        ≡ (sums_after box_node.now.kind box_node.now.setting (take left.entry.from left.entry.items.now)).natural +ℤ (run.new.h -ℤ run.old.h) }
+    ensures shares { (sums_after box_node.now.kind box_node.now.setting (take result left.entry.items.now)).shares
+        ≡ (sums_after box_node.now.kind box_node.now.setting (take left.entry.from left.entry.items.now)).shares }
+    ensures at { point_in box_node.now begin.now.h begin.now.v (place_at box_node.now.setting
+        (sums_after box_node.now.kind box_node.now.setting (take result left.entry.items.now))) ≡ Some (level_with run.new.v run.new.h) }
     ensures left { list_all fits (numbers_after box_node.now begin.now.h begin.now.v (take result left.entry.items.now)
         (items_of (drop result left.entry.items.now)))
         ≡ list_all fits (numbers_after box_node.now begin.now.h begin.now.v (take left.entry.from left.entry.items.now)
@@ -147,12 +121,14 @@ fn draw_run<B: BoxRef, S: MarkSink<B>>(
         (drawn_after box_node.now begin.now.h begin.now.v (take left.entry.from left.entry.items.now)
         (items_of (drop left.entry.from left.entry.items.now))) }
 {
+    let _kind = box_node.kind;
+    let _h = begin.h;
     let ItemsFrom { items, from } = left;
     for index in from..items.len() {
         let Node::Glyph(glyph) = &items[index] else {
             return index;
         };
-        if !draw_next(sink, run, box_node, begin, glyph) {
+        if !draw_next(sink, run, glyph) {
             return index;
         }
     }
@@ -200,12 +176,11 @@ fn draw_glyphs<B: BoxRef, S: MarkSink<B>>(
         return Ok(Some(from));
     };
     let mut run = GlyphRun {
-        cursor: walk.cursor,
         h: at.h,
         v: at.v,
         slot: glyph.slot,
     };
-    if !draw_first(sink, &mut run, box_node, begin, glyph)? {
+    if !draw_first(sink, &mut run, glyph)? {
         return Ok(None);
     }
     let after = ItemsFrom {
@@ -213,10 +188,9 @@ fn draw_glyphs<B: BoxRef, S: MarkSink<B>>(
         from: from + 1,
     };
     let next = draw_run(sink, &mut run, box_node, begin, after);
-    *walk = ItemWalk {
-        cursor: run.cursor,
-        here: Some(Point { h: run.h, v: run.v }),
-    };
+    walk.cursor
+        .move_over(run.h.exact_sub(at.h), (next - from) as u32);
+    walk.here = Some(Point { h: run.h, v: run.v });
     Ok(Some(next))
 }
 

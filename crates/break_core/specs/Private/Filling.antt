@@ -1,13 +1,12 @@
 -- The table of a paragraph while it is filled, place by place (own).
-use Rattle.std.specs.Prelude.{◌≡◌, ◌<◌, ◌≤◌, ◌+◌, ◌^◌, ◌<ℤ◌, ◌≤ℤ◌, ℕ, ℤ, pos, Bool, List, length, slice_get, Option, Some, None, if◌then◌else◌}
+use Rattle.std.specs.Prelude.{◌≡◌, ◌<◌, ◌≤◌, ◌+◌, ◌^◌, ◌<ℤ◌, ℕ, ℤ, pos, Bool, List, length, slice_get, Option, Some, None, if◌then◌else◌}
 use Rattle.node_core.specs.declared.params.Params.{Params}
 use Rattle.break_lines.specs.declared.group.ActiveGroup.{ActiveGroup}
 use Rattle.break_lines.specs.declared.state.BreakState.{BreakState}
 use Rattle.break_lines.specs.Problems.{Problem, max_places}
 use Rattle.break_lines.specs.Ways.{last_forced_below}
 use Rattle.break_lines.specs.Orders.{NotAfter}
-use Rattle.break_lines.specs.Tables.{Entry, slots, extended_entry, compared_numbers, AreBelow, IsRow}
-use Rattle.break_lines.specs.declared.state.Fitness.{Fitness}
+use Rattle.break_lines.specs.Tables.{Entry, slots, extended_entry, compared_numbers, IsRow}
 use Rattle.break_lines.specs.declared.state.LineCost.{LineCost}
 use Rattle.break_lines.specs.declared.answer.ChosenBreaks.{ChosenBreaks}
 use Rattle.break_lines.specs.Chosen.{AdmitsNone, IsAnswer}
@@ -77,18 +76,7 @@ pub record IsBestOffer (table : List Entry) (params : Params) (place : ℕ) (alo
       (k : ℕ) (e : Entry) → from ≤ k → k < to → slice_get table k ≡ Some e
       → NotAfter (compared_numbers best) (compared_numbers (offer_from params e k place alone))
 
--- A line has no more demerits than another one after a line of any class, and the same overhang.
-pub record IsLeastLine (params : Params) (alone least : LineCost) : Type 0 where
-  pub overhang : least.overhang ≡ alone.overhang
-  pub demerits : (before : Fitness) → least.demerits ≤ℤ (line_after params before alone).demerits
-
--- The costs of an offer that is held are below those of an entry by a line.
-pub record IsBeaten (held : Option Entry) (best : Entry) (line : LineCost) : Type 0 where
-  pub entry : Entry
-  pub is : held ≡ Some entry
-  pub below : AreBelow entry best line
-
--- The step from one row to another: the entries of a group were offered by such a line, if no lines are counted.
+-- The step from one row to another: the entries of a group were offered by a line, if no lines are counted.
 abbrev pub IsOfferingBest : (table : List Entry) → Params → ActiveGroup → (place : ℕ) → (alone : LineCost) → (old new : List (Option Entry)) → Type 0
 IsOfferingBest table params group place alone old new =
     (p : Problem) → p.cut ≡ 0 → last_forced_below p place ≤ group.place

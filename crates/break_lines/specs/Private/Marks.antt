@@ -1,6 +1,6 @@
 -- The places of a list as its meter stores them, and the walk that finds them (own).
-use Rattle.std.specs.Prelude.{◌≡◌, ◌≢◌, ◌+◌, ◌-◌, ◌<◌, ◌≤◌, ◌+ℤ◌, ◌++◌, ℕ, ℤ, pos, false, nat_lt, List, ◌∷◌, length, map, filter, reverse, drop}
-use Rattle.std.specs.Prelude.{slice_get, Option, Some, None, if◌then◌else◌}
+use Rattle.std.specs.Prelude.{◌≡◌, ◌≢◌, ◌+◌, ◌-◌, ◌<◌, ◌≤◌, ◌+ℤ◌, ◌≤ℤ◌, ◌++◌, ℕ, ℤ, pos, Bool, true, false, int_lt, nat_lt, List, ◌∷◌}
+use Rattle.std.specs.Prelude.{length, map, filter, reverse, drop, slice_get, Option, Some, None, if◌then◌else◌}
 use Rattle.std.specs.List.{list_any}
 use Rattle.node_core.specs.declared.tree.Node.{Node}
 use Rattle.node_core.specs.declared.tree.Node.TheVariants as nodes
@@ -75,6 +75,17 @@ plus a b =
       shrink = a.shrink +ℤ b.shrink;
     }
 
+-- Whether an item is glue whose stretch is negative.
+abbrev pub has_negative_stretch : Node → Bool
+has_negative_stretch (nodes.Glue glue) = int_lt glue.stretch (pos 0)
+has_negative_stretch (nodes.Glyph glyph) = false
+has_negative_stretch (nodes.FontKern width) = false
+has_negative_stretch (nodes.Kern width) = false
+has_negative_stretch (nodes.Penalty penalty) = false
+has_negative_stretch (nodes.Rule rule) = false
+has_negative_stretch (nodes.Special text) = false
+has_negative_stretch (nodes.Box shift b) = false
+
 -- The mark of a legal place.
 abbrev pub measured_break : List Node → ℕ → MeasuredBreak
 measured_break list place =
@@ -111,6 +122,12 @@ pub record GoesOnEvenly (here next : MeasuredBreak) : Type 0 where
   pub line : here.begin ≤ next.position → Covers here.from_begin next.from_position
   pub passed : next.position < here.begin → Covers here.from_position next.from_position
 
+-- The same in their width alone.
+pub record GoesOnInWidth (here next : MeasuredBreak) : Type 0 where
+  pub dropped : here.from_begin.width ≤ℤ here.from_position.width
+  pub line : here.begin ≤ next.position → next.from_position.width ≤ℤ here.from_begin.width
+  pub passed : next.position < here.begin → next.from_position.width ≤ℤ here.from_position.width
+
 -- The measures of a list that is not refused.
 pub record IsMarked (list : List Node) (found : List MeasuredBreak) : Type 0 where
   pub fits : refusal list ≡ None
@@ -130,3 +147,4 @@ pub record HasMeasuredFrom (list : List Node) (index : ℕ) (walk : BreakWalk) :
   pub from_begin : walk.begin ≢ index → walk.from_begin ≡ sums_of (drop walk.begin list)
   pub small_begin : IsPrefix max_nodes walk.from_begin
   pub finite : list_any shrinks_infinitely (drop index list) ≡ false
+  pub grows : walk.stretch_grows ≡ true → list_any has_negative_stretch (drop index list) ≡ false

@@ -2,10 +2,12 @@ use Rattle.std.proofs.Common.{◌≡◌, ◌∙◌, ◌+◌, ◌++◌, [], None,
 use Rattle.break_lines.specs.declared.group.ActiveGroup.{ActiveGroup}
 use Rattle.break_lines.specs.Tables.{slots, IsRow, row_entries}
 use Rattle.break_lines.specs.Legal.{is_forced}
-use Rattle.break_core.specs.Private.Active.{stops_at, problem_leaving_out, groups_of, live_of, with_group, with_live, IsBestOf, HaveBest, IsActive, IsFilled}
+use Rattle.break_core.specs.Private.Active.{stops_at, problem_leaving_out, groups_of, live_of, with_group, with_live, HasBest, HaveBest, IsActive, IsFilled}
+use Rattle.break_core.specs.Private.Filling.{IsOf}
 use Rattle.break_core.proofs.Active.{filled_more, filled_none}
+use Rattle.break_core.proofs.Filled.{new_of}
 use Rattle.break_core.proofs.Lives.{groups_put, over_put, best_put}
-use Rattle.break_core.proofs.Beaten.{best_longer}
+use Rattle.break_core.proofs.Numbers.{best_longer}
 use Rattle.break_core.proofs.filling.add_place.Goals as goal
 
 pub returns-clause-filled : goal.returns-clause-filled
@@ -29,9 +31,9 @@ returns-clause-filled g c =
     let ended : c.len.result ≡ length c.flush_row.new.table.items = search rules in
     let group : ActiveGroup = record { place = c.args.place; start = c.len-start.result; end = c.len.result } in
     let made : groups_of (live_of c.add_group.new.lives) ≡ with_group (cond (p.forced c.args.place) [] next) group =
-    groups_put (p.forced c.args.place) lives (live_of c.add_group.new.lives) c.new-live.result
-    (c.in_ok-add_group.ensures.groups ∙ ap (λ t. with_live (cond t [] lives) c.new-live.result) forced)
-    ∙ ap (with_group (cond (p.forced c.args.place) [] next)) c.new-live.ensures.group in
+    groups_put (p.forced c.args.place) lives (live_of c.add_group.new.lives) c.new_live-live.result
+    (c.in_ok-add_group.ensures.groups ∙ ap (λ t. with_live (cond t [] lives) c.new_live-live.result) forced)
+    ∙ ap (with_group (cond (p.forced c.args.place) [] next)) c.new_live-live.ensures.group in
     let filled : IsFilled p stop (c.args.place + 1) (table ++ row_entries row) (groups_of (live_of c.add_group.new.lives)) =
     filled_more p stop c.args.place table row (groups_of (live_of c.args.reached.now.live)) next (groups_of (live_of c.add_group.new.lives)) group c.requires.first c.requires.filled full
     active refl began (ended ∙ ap length held) made in
@@ -47,16 +49,30 @@ returns-clause-over g c =
     let f = g.M.Meter.facts c.args.meter.now in
     let params = c.args.rules.now.params.now in
     let lives = (live_of c.try_lines-offered.new.lives) in
-    over_put f params c.args.place c.is_forced-forced.result lives (live_of c.add_group.new.lives) c.new-live.result c.try_lines-offered.ensures.over
-    (ap (λ (x : ActiveGroup). x.place) c.new-live.ensures.group) c.new-live.ensures.over c.in_ok-add_group.ensures.groups
+    over_put f params c.args.place c.is_forced-forced.result lives (live_of c.add_group.new.lives) c.new_live-live.result c.try_lines-offered.ensures.over
+    (ap (λ (x : ActiveGroup). x.place) c.new_live-live.ensures.group) c.new_live-live.ensures.over c.in_ok-add_group.ensures.groups
 
 pub try_lines-offered-requires-clause-best : goal.try_lines-offered-requires-clause-best
-try_lines-offered-requires-clause-best g c = subst (λ t. HaveBest t (live_of c.args.reached.now.live)) (sym c.deref.ensures.value) c.requires.best
+try_lines-offered-requires-clause-best g c = subst (λ t. HaveBest t c.args.rules.now.params.now (live_of c.args.reached.now.live)) (sym c.deref.ensures.value) c.requires.best
 
-pub new-live-requires : goal.new-live-requires
-new-live-requires g c =
+pub new_live-live-requires : goal.new_live-live-requires
+new_live-live-requires g c =
+    let f = g.M.Meter.facts c.args.meter.now in
+    let rules_now = c.args.rules.now in
+    let p = problem_leaving_out f rules_now.params.now rules_now.bound rules_now.stop_rule in
+    let table = c.args.reached.now.table.items in
+    let row = c.try_lines-offered.new.row.items in
+    let full : IsRow p table c.args.place (length table) row =
+    subst (λ t. IsRow p t c.args.place (length t) row) c.deref.ensures.value c.try_lines-offered.ensures.row in
+    let held : c.flush_row.new.table.items ≡ table ++ row_entries row = c.in_ok-flush_row.ensures.table in
+    let began : c.len-start.result ≡ length table = search rules in
     let ended : c.len.result ≡ length c.flush_row.new.table.items = search rules in
-    record { group_bounded = omega (arith, ended, ap length c.deref-2.ensures.value) }
+    let group : ActiveGroup = record { place = c.args.place; start = c.len-start.result; end = c.len.result } in
+    record {
+      group_bounded = omega (arith, ended, ap length c.deref-2.ensures.value);
+      entries = subst (λ t. IsOf rules_now.params.now.first_lines t group) (sym (c.deref-2.ensures.value ∙ held))
+          (new_of p table row c.args.place group c.requires.first c.requires.filled.is_table full refl began (ended ∙ ap length held));
+    }
 
 pub returns-clause-best : goal.returns-clause-best
 returns-clause-best g c =
@@ -64,20 +80,20 @@ returns-clause-best g c =
     let row = c.try_lines-offered.new.row.items in
     let lives = (live_of c.try_lines-offered.new.lives) in
     let new = (live_of c.add_group.new.lives) in
-    let live = c.new-live.result in
+    let live = c.new_live-live.result in
+    let params = c.args.rules.now.params.now in
     let held : c.flush_row.new.table.items ≡ table ++ row_entries row = c.in_ok-flush_row.ensures.table in
     let began : c.len-start.result ≡ length table = search rules in
     let ended : c.len.result ≡ length c.flush_row.new.table.items = search rules in
-    let start : live.group.start ≡ c.len-start.result = ap (λ (x : ActiveGroup). x.start) c.new-live.ensures.group in
-    let end : live.group.end ≡ c.len.result = ap (λ (x : ActiveGroup). x.end) c.new-live.ensures.group in
+    let start : live.group.start ≡ c.len-start.result = ap (λ (x : ActiveGroup). x.start) c.new_live-live.ensures.group in
+    let end : live.group.end ≡ c.len.result = ap (λ (x : ActiveGroup). x.end) c.new_live-live.ensures.group in
     let rises : live.group.start ≤ live.group.end = omega (arith, start, end, began, ended, ap length held, length-append table (row_entries row)) in
-    let before : HaveBest c.flush_row.new.table.items lives =
-    subst (λ t. HaveBest t lives) (sym held)
-    (best_longer table (row_entries row) lives (subst (λ t. HaveBest t lives) c.deref.ensures.value c.try_lines-offered.ensures.best)) in
-    let is : live.group.start < live.group.end → IsBestOf c.flush_row.new.table.items live.group.start live.group.end live.best =
-    λ some. subst (λ t. IsBestOf t live.group.start live.group.end live.best) c.deref-2.ensures.value
-    (subst (λ (x : ActiveGroup). IsBestOf c.deref-2.result.now x.start x.end live.best) (sym c.new-live.ensures.group) (c.new-live.ensures.best (omega (arith, some, start, end)))) in
-    best_put c.flush_row.new.table.items c.is_forced-forced.result lives new live before rises is c.in_ok-add_group.ensures.groups
+    let before : HaveBest c.flush_row.new.table.items params lives =
+    subst (λ t. HaveBest t params lives) (sym held)
+    (best_longer table (row_entries row) params lives (subst (λ t. HaveBest t params lives) c.deref.ensures.value c.try_lines-offered.ensures.best)) in
+    let is : live.group.start < live.group.end → HasBest c.flush_row.new.table.items params live =
+    λ some. subst (λ t. HasBest t params live) c.deref-2.ensures.value (c.new_live-live.ensures.best (omega (arith, some, start, end))) in
+    best_put c.flush_row.new.table.items params c.is_forced-forced.result lives new live before rises is c.in_ok-add_group.ensures.groups
 
 pub returns-then-is_passed_over-clause-filled : goal.returns-then-is_passed_over-clause-filled
 returns-then-is_passed_over-clause-filled g c =
@@ -101,7 +117,7 @@ returns-then-is_passed_over-clause-filled g c =
 
 pub returns-then-is_passed_over-clause-best : goal.returns-then-is_passed_over-clause-best
 returns-then-is_passed_over-clause-best g c =
-    subst (λ t. HaveBest t (live_of c.try_lines-offered.new.lives)) c.deref.ensures.value c.try_lines-offered.ensures.best
+    subst (λ t. HaveBest t c.args.rules.now.params.now (live_of c.try_lines-offered.new.lives)) c.deref.ensures.value c.try_lines-offered.ensures.best
 
 pub returns-then-is_passed_over-clause-empty : goal.returns-then-is_passed_over-clause-empty
 returns-then-is_passed_over-clause-empty g c =

@@ -1,8 +1,10 @@
 use Rattle.std.proofs.Common.{◌≡◌, ◌∙◌, ◌+◌, ℕ, [], ◌∷◌, None, length, false, replicate, refl, ap, sym, subst, rules, arith}
 use Rattle.break_lines.specs.Tables.{slots, first_entry}
 use Rattle.break_lines.specs.declared.group.ActiveGroup.{ActiveGroup}
-use Rattle.break_core.specs.Private.Active.{stops_at, problem_leaving_out, groups_of, live_of, AreOver, IsBestOf, IsFilled, IsSwept}
+use Rattle.break_core.specs.Private.Active.{stops_at, problem_leaving_out, groups_of, live_of, AreOver, HasBest, IsFilled, IsSwept}
+use Rattle.break_core.specs.Private.Filling.{IsOf}
 use Rattle.break_core.proofs.Active.{table_rest}
+use Rattle.break_core.proofs.Filled.{first_of}
 use Rattle.break_core.proofs.Counts.{counted_none, counted_more, counted_longer, kept_none, kept_on, started_more, started_none, start_group}
 use Rattle.break_core.proofs.Lives.{filled_start, over_first, best_kept}
 use Rattle.break_core.proofs.filling.fill.Goals as goal
@@ -13,21 +15,19 @@ loop-before-init g c =
     let params = c.args.rules.now.params.now in
     let rule = c.args.rules.now.stop_rule in
     let stop = stops_at f params rule in
-    let live = c.new-live.result in
-    let group : live.group ≡ start_group = c.new-live.ensures.group in
+    let live = c.new_live-live.result in
+    let group : live.group ≡ start_group = c.new_live-live.ensures.group in
     let table : c.push.new.self.items ≡ first_entry ∷ [] = search rules in
     let lives : c.push-2.new.self.items ≡ live ∷ [] = search rules in
-    let best : IsBestOf c.push.new.self.items live.group.start live.group.end live.best =
-    subst (λ t. IsBestOf t live.group.start live.group.end live.best) c.deref.ensures.value
-    (subst (λ (x : ActiveGroup). IsBestOf c.deref.result.now x.start x.end live.best) (sym group) (c.new-live.ensures.best (omega arith))) in
+    let best : HasBest c.push.new.self.items params live = subst (λ t. HasBest t params live) c.deref.ensures.value (c.new_live-live.ensures.best (omega arith)) in
     record {
       facts = refl;
       counted = counted_none stop (g.M.Meter.trials c.args.meter.now);
       filled = filled_start (problem_leaving_out f params c.args.rules.now.bound rule) stop c.push.new.self.items c.push-2.new.self.items live table lives
           (ap (λ (x : ActiveGroup). x.place) group) (ap (λ (x : ActiveGroup). x.start) group) (ap (λ (x : ActiveGroup). x.end) group);
-      over = subst (AreOver f params 1) (sym lives) (over_first f params live (ap (λ (x : ActiveGroup). x.place) group) c.new-live.ensures.over);
+      over = subst (AreOver f params 1) (sym lives) (over_first f params live (ap (λ (x : ActiveGroup). x.place) group) c.new_live-live.ensures.over);
       first_bounded = omega arith;
-      best = best_kept c.push.new.self.items false [] c.push-2.new.self.items live (λ k x there. absurd (cc)) best lives;
+      best = best_kept c.push.new.self.items params false [] c.push-2.new.self.items live (λ k x there. absurd (cc)) best lives;
       kept = kept_none (g.M.Meter.trials c.args.meter.now);
       begins = λ _. ap groups_of lives ∙ ap (λ (x : ActiveGroup). x ∷ []) group;
       started = λ some. absurd (omega (arith, some));
@@ -87,7 +87,11 @@ returns-then-is_empty-clause-tried g c =
     let none : groups_of (live_of live) ≡ [] = ap groups_of (c.is_empty.ensures c.if-is_empty.true) in
     started_none c.loop-before.before (groups_of (live_of live)) (g.M.Meter.trials c.args.meter.now) (g.M.Meter.trials c.loop-before.meter) none inv.begins inv.started
 
-pub new-live-requires : goal.new-live-requires
-new-live-requires g c =
+pub new_live-live-requires : goal.new_live-live-requires
+new_live-live-requires g c =
     let table : c.push.new.self.items ≡ first_entry ∷ [] = search rules in
-    record { group_bounded = omega (arith, ap length (c.deref.ensures.value ∙ table)) }
+    record {
+      group_bounded = omega (arith, ap length (c.deref.ensures.value ∙ table));
+      entries = subst (λ t. IsOf c.args.rules.now.params.now.first_lines t start_group) (sym (c.deref.ensures.value ∙ table))
+          (first_of c.args.rules.now.params.now.first_lines start_group refl refl);
+    }

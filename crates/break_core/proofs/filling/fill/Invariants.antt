@@ -10,7 +10,7 @@ invariant-loop-before g l = record {
   counted : IsCounted (stops_at (g.M.Meter.facts l.initial.meter) l.rules.params.now l.rules.stop_rule) l.before (g.M.Meter.trials l.initial.meter) (g.M.Meter.trials l.meter);
   filled : IsFilled (problem_leaving_out (g.M.Meter.facts l.initial.meter) l.rules.params.now l.rules.bound l.rules.stop_rule) (stops_at (g.M.Meter.facts l.initial.meter) l.rules.params.now l.rules.stop_rule) (l.before + 1) l.reached.table.items (groups_of (live_of l.reached.live));
   over : AreOver (g.M.Meter.facts l.initial.meter) l.rules.params.now (l.before + 1) (live_of l.reached.live);
-  best : HaveBest l.reached.table.items (live_of l.reached.live);
+  best : HaveBest l.reached.table.items l.rules.params.now (live_of l.reached.live);
   first_bounded : l.reached.live.first ≤ length l.reached.live.list.items;
   kept : TrialsOnlyGrow (g.M.Meter.trials l.initial.meter) (g.M.Meter.trials l.meter);
   begins : l.before ≡ 0 → groups_of (live_of l.reached.live) ≡ start_group ∷ [];

@@ -189,7 +189,7 @@ loop-index-preserved g c =
           (over_found f h params group.place c.args.place sums live.over next_over width overfull next.group.earlier
           refl over is_over is_width c.try_line-sums.ensures.sums inv.facts)
           made;
-      best = best_kept table c.stops_after-stopped.result old new kept inv.best (c.requires.best (index - first) live there) made;
+      best = best_kept table params c.stops_after-stopped.result old new kept inv.best (c.requires.best (index - first) live there) made;
       index_bounded = next_bounded (cases_Bool both_wait);
       end_bounded = end_within (cases_Bool both_wait);
       begins = begins (cases_Bool both_wait);
@@ -291,7 +291,7 @@ loop-index-init g c =
       front = subst (λ xs. IsFront p (stops_at f rules_now.params.now rules_now.stop_rule) c.args.table.now c.args.place c.args.place 0 0 (groups_of xs)) (sym none)
           (λ rest free active. active);
       over = subst (AreOver f rules_now.params.now (c.args.place + 1)) (sym none) (λ k x there. absurd (cc));
-      best = subst (HaveBest c.args.table.now) (sym none) (λ k x there. absurd (cc));
+      best = subst (HaveBest c.args.table.now rules_now.params.now) (sym none) (λ k x there. absurd (cc));
       index_bounded = omega (arith, c.len-end.ensures, c.requires.first_bounded);
       end_bounded = omega (arith, c.len-end.ensures);
       begins = inl (omega (arith, c.len-end.ensures));
@@ -320,7 +320,7 @@ offer_waiting-waiting-requires g c =
         each = subst (CanAllWait 0 table c.args.place) (sym slice)
             (can_uncounted params.first_lines table c.args.place (drop c.loop-index.end now) waiting.uncounted
             (can_wait p stop table c.args.place c.args.place inv.at inv.low (drop c.loop-index.end now) c.requires.filled.is_table waiting.active));
-        best = subst (HaveBest table) (sym slice) waiting.best;
+        best = subst (HaveBest table params) (sym slice) waiting.best;
         places = c.requires.places;
       };
       penalty = omega (arith, ints, c.place-at.ensures.penalty_bounded);
@@ -414,9 +414,9 @@ returns-clause-best g c =
     c.args.lives.now.list.items now inv.begun last inv.count inv.rest inv.waits c.requires.over c.requires.best inv.live in
     let first = c.loop-index.lives.first in
     let within : c.loop-index.kept ≤ length now = omega (arith, inv.kept_bounded, inv.index_bounded, inv.end_bounded, inv.count) in
-    subst (HaveBest table)
+    subst (HaveBest table rules_now.params.now)
     (sym (both_parts first c.loop-index.kept c.loop-index.end now c.remove_groups.new.lives.items inv.first_bounded within c.remove_groups.ensures))
-    (best_joined table (drop first (take c.loop-index.kept now)) (drop c.loop-index.end now) inv.best waiting.best)
+    (best_joined table rules_now.params.now (drop first (take c.loop-index.kept now)) (drop c.loop-index.end now) inv.best waiting.best)
 
 pub returns-clause-tried : goal.returns-clause-tried
 returns-clause-tried g c =

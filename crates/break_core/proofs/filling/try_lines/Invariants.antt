@@ -24,7 +24,7 @@ invariant-loop-index g l = record {
   rest : (k : ℕ) → l.index ≤ k → slice_get l.lives.list.items k ≡ slice_get l.initial.lives.list.items k;
   front : IsFront (problem_leaving_out (g.M.Meter.facts l.initial.meter) l.rules.params.now l.rules.bound l.rules.stop_rule) (stops_at (g.M.Meter.facts l.initial.meter) l.rules.params.now l.rules.stop_rule) l.table l.place l.place at low (groups_of (drop l.lives.first (take l.kept l.lives.list.items)));
   over : AreOver (g.M.Meter.facts l.initial.meter) l.rules.params.now (l.place + 1) (drop l.lives.first (take l.kept l.lives.list.items));
-  best : HaveBest l.table (drop l.lives.first (take l.kept l.lives.list.items));
+  best : HaveBest l.table l.rules.params.now (drop l.lives.first (take l.kept l.lives.list.items));
   index_bounded : l.index ≤ l.end;
   end_bounded : l.end ≤ length l.initial.lives.list.items;
   begins : (length l.initial.lives.list.items ≤ l.end) ⊎ (l.initial.lives.first < l.end);

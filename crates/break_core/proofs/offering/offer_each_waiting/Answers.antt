@@ -11,8 +11,13 @@ pub loop-index-init : goal.loop-index-init
 loop-index-init c =
     record {
       wide = c.requires.can.wide;
-      offered = offered_none c.args.table.now c.args.params.now c.args.line.alone c.args.lives.now c.args.line.place c.args.row.now.items;
+      offered = offered_none c.args.table.now c.args.params.now c.args.alone c.args.lives.now c.args.place c.args.row.now.items;
     }
+
+pub offer_best-requires-clause-uncounted : goal.offer_best-requires-clause-uncounted
+offer_best-requires-clause-uncounted c =
+    let within : c.loop-index.index < length c.args.lives.now = search rules in
+    c.requires.can.uncounted (omega (arith, within))
 
 pub offer_best-requires-clause-wide : goal.offer_best-requires-clause-wide
 offer_best-requires-clause-wide c =
@@ -50,7 +55,7 @@ loop-index-preserved c =
     let none = c.requires.can.uncounted (omega (arith, within)) in
     record {
       wide = c.offer_best.ensures.wide ∙ sym (ap slots none);
-      offered = offered_more c.args.table.now c.args.params.now c.args.line.alone lives c.args.line.place c.loop-index.index _ c.args.row.now.items
+      offered = offered_more c.args.table.now c.args.params.now c.args.alone lives c.args.place c.loop-index.index _ c.args.row.now.items
           c.loop-index.row.items c.offer_best.new.row.items none (slice_get-get_or lives c.loop-index.index _ within) c.offer_best.ensures.row
           c.loop-index.invariant.offered;
     }
@@ -61,6 +66,6 @@ returns c =
     let end : length lives ≤ c.loop-index.index = search rules in
     let past : length (groups_of lives) ≤ c.loop-index.index = omega (arith, end, length-map lives (λ (x : Live). x.group)) in
     record {
-      row = offered_all c.args.table.now c.args.params.now c.args.line.alone lives c.args.line.place c.loop-index.index c.args.row.now.items
+      row = offered_all c.args.table.now c.args.params.now c.args.alone lives c.args.place c.loop-index.index c.args.row.now.items
           c.loop-index.row.items past c.loop-index.invariant.offered;
     }

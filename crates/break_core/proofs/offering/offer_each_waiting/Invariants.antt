@@ -6,5 +6,5 @@ use Rattle.break_core.proofs.offering.offer_each_waiting.Given as goal
 abbrev pub invariant-loop-index : goal.invariant-loop-index
 invariant-loop-index l = record {
   wide : length l.row.items ≡ slots l.params.first_lines;
-  offered : IsOfferingFirst l.table l.params l.line.alone l.lives l.line.place l.index l.initial.row.items l.row.items;
+  offered : IsOfferingFirst l.table l.params l.alone l.lives l.place l.index l.initial.row.items l.row.items;
 }

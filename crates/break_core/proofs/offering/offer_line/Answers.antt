@@ -6,7 +6,6 @@ use Rattle.break_lines.specs.Sizes.{fits_of_sums}
 use Rattle.break_core.specs.Private.Filling.{IsOf}
 use Rattle.break_core.proofs.BestOffers.{best_line, none_line, overfull_once}
 use Rattle.break_core.proofs.Stopping.{row_left_out}
-use Rattle.break_core.proofs.Beaten.{offered_by}
 use Rattle.break_core.proofs.offering.offer_line.Goals as goal
 
 pub fit_line-line-requires : goal.fit_line-line-requires
@@ -14,6 +13,9 @@ fit_line-line-requires c = record { sums_bounded = c.requires.can.small }
 
 pub line_alone-requires-clause-penalty : goal.line_alone-requires-clause-penalty
 line_alone-requires-clause-penalty c = omega (arith, ints, c.requires.can.penalty)
+
+pub offer_best-requires-clause-uncounted : goal.offer_best-requires-clause-uncounted
+offer_best-requires-clause-uncounted c = omega (arith, c.get.ensures.value)
 
 pub offer_best-requires-clause-wide : goal.offer_best-requires-clause-wide
 offer_best-requires-clause-wide c =
@@ -24,7 +26,7 @@ pub offer_best-requires-clause-group_bounded : goal.offer_best-requires-clause-g
 offer_best-requires-clause-group_bounded c = c.requires.can.within
 
 pub offer_best-requires-clause-earlier : goal.offer_best-requires-clause-earlier
-offer_best-requires-clause-earlier c = omega (arith, c.requires.can.earlier, c.offered_line-line.ensures.place)
+offer_best-requires-clause-earlier c = c.requires.can.earlier
 
 pub offer_best-requires-clause-entries : goal.offer_best-requires-clause-entries
 offer_best-requires-clause-entries c =
@@ -32,7 +34,7 @@ offer_best-requires-clause-entries c =
     subst (λ n. IsOf n c.args.table.now c.args.live.now.group) none c.requires.can.entries
 
 pub offer_best-requires-clause-places : goal.offer_best-requires-clause-places
-offer_best-requires-clause-places c = omega (arith, c.requires.can.places, c.offered_line-line.ensures.place)
+offer_best-requires-clause-places c = c.requires.can.places
 
 pub offer_best-requires-clause-best : goal.offer_best-requires-clause-best
 offer_best-requires-clause-best c = c.requires.best
@@ -79,8 +81,7 @@ returns-clause-row c =
     c.args.row.now.items c.offer_best.new.row.items none c.if-left_out.false
     (sym c.in-Some.is ∙ c.line_alone.ensures.value ∙ ap (λ x. line_alone rules.params.now rules.bound x c.fit_line-line.result) penalty
     ∙ ap (line_alone rules.params.now rules.bound tried.penalty) c.fit_line-line.ensures.value)
-    (offered_by c.args.table.now rules.params.now c.args.live.now.group c.args.row.now.items c.offer_best.new.row.items
-    c.offered_line-line.ensures.place c.offered_line-line.ensures.alone c.offer_best.ensures.row)
+    c.offer_best.ensures.row
 
 pub returns-clause-wide : goal.returns-clause-wide
 returns-clause-wide c =

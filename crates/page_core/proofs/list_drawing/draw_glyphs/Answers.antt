@@ -1,17 +1,16 @@
-use Rattle.std.proofs.Common.{◌≡◌, ◌∙◌, refl, sym, ap, subst, take, get_or, ◌+◌}
-use Rattle.std.specs.Prelude.{true, false}
+use Rattle.std.proofs.Common.{◌≡◌, ◌∙◌, sym, ap, subst, take, get_or, length-take-le, ◌+◌, arith}
+use Rattle.std.proofs.lemmas.Int.{ints}
+use Rattle.std.specs.Prelude.{ℤ, false, Some}
+use Rattle.std.specs.Option.{option_map}
+use Rattle.node_core.specs.declared.tree.Kind.{Kind}
 use Rattle.node_core.specs.declared.tree.Node.{Node}
 use Rattle.node_core.specs.declared.tree.Node.TheVariants as nodes
-use Rattle.pack_core.specs.Cursors.{one_more, place_at}
-use Rattle.pack_core.proofs.Walks.{reached-more}
-use Rattle.page_core.specs.Private.Placing.{marked_at}
-use Rattle.page_core.proofs.Places.{drawn_left, fits_more, drawn_more, item_fits, item_marks, rest_of_and, first_false, few_passed}
+use Rattle.pack_core.specs.Cursors.{WalkSums, one_more, place_at}
+use Rattle.pack_core.proofs.Walks.{reached-more, reached-passed}
+use Rattle.page_core.specs.Private.Placing.{level_with, point_in}
+use Rattle.page_core.proofs.Walked.{glyph-next, between-none, ends, across-so}
+use Rattle.page_core.proofs.Places.{drawn_left, fits_more, item_fits, first_false, glyph_passed, glyph_drawn, sums_of_run}
 use Rattle.page_core.proofs.list_drawing.draw_glyphs.Goals as goal
-
-pub draw_first-requires-clause-items_bounded : goal.draw_first-requires-clause-items_bounded
-draw_first-requires-clause-items_bounded g c =
-    let b = c.args.box_node.now in
-    few_passed b.kind b.setting c.args.left.items.now c.args.left.from c.args.walk.now.cursor c.requires.cursor c.requires.within c.requires.items_bounded
 
 pub returns-then-not-branch-clause-over : goal.returns-then-not-branch-clause-over
 returns-then-not-branch-clause-over g c none =
@@ -20,20 +19,93 @@ returns-then-not-branch-clause-over g c none =
     let v = c.args.begin.now.v in
     let xs = c.args.left.items.now in
     let i = c.args.left.from in
-    let x : Node = nodes.Glyph c.in-Horizontal-Some-Glyph.glyph in
+    let from = c.args.walk.now.cursor in
+    let at = c.in-Horizontal-Some-Glyph.at in
+    let glyph = c.in-Horizontal-Some-Glyph.glyph in
+    let x : Node = nodes.Glyph glyph in
     let at_i = subst (λ (y : Node). y ≡ get_or xs i y) c.in-Horizontal-Some-Glyph.is-2 c.index-items-from.is in
-    let here = item_fits b h v (take i xs) x c.args.walk.now.cursor false c.requires.cursor (sym c.if-not-branch.true ∙ c.in_ok-draw_first.ensures.fits) in
-    fits_more b h v xs i x c.requires.within at_i ∙ first_false _ _ here
+    let here = sym c.requires.here ∙ c.in-Horizontal-Some-Glyph.is-1 in
+    let over = glyph-next b h v from at glyph c.in-Horizontal-Some-Glyph.is-0 here
+    ∙ ap (option_map (level_with at.v)) (c.in_ok-draw_first.ensures.over c.if-not-branch.true) in
+    let no = between-none b h v (place_at b.setting from) (place_at b.setting (one_more b.kind b.setting from x)) x over in
+    fits_more b h v xs i x c.requires.within at_i ∙ first_false _ _ (item_fits b h v (take i xs) x from false c.requires.cursor (sym no))
 
-pub draw_run-next-requires-clause-cursor : goal.draw_run-next-requires-clause-cursor
-draw_run-next-requires-clause-cursor g c =
+pub draw_run-next-requires-clause-at : goal.draw_run-next-requires-clause-at
+draw_run-next-requires-clause-at g c =
+    let b = c.args.box_node.now in
+    let h = c.args.begin.now.h in
+    let v = c.args.begin.now.v in
+    let xs = c.args.left.items.now in
+    let i = c.args.left.from in
+    let from = c.args.walk.now.cursor in
+    let at = c.in-Horizontal-Some-Glyph.at in
+    let glyph = c.in-Horizontal-Some-Glyph.glyph in
+    let x : Node = nodes.Glyph glyph in
+    let at_i = subst (λ (y : Node). y ≡ get_or xs i y) c.in-Horizontal-Some-Glyph.is-2 c.index-items-from.is in
+    let here = sym c.requires.here ∙ c.in-Horizontal-Some-Glyph.is-1 in
+    let there = glyph-next b h v from at glyph c.in-Horizontal-Some-Glyph.is-0 here
+    ∙ ap (option_map (level_with at.v)) (c.in_ok-draw_first.ensures.end c.if-not-branch.false) in
+    let more = ap (λ (r : WalkSums). one_more b.kind b.setting r x) c.requires.cursor ∙ reached-more b.kind b.setting xs i x c.requires.within at_i in
+    ap (λ r. point_in b h v (place_at b.setting r)) (sym more)
+    ∙ (there ∙ ap (λ (z : ℤ). Some (level_with z c.draw_first.new.run.h)) (sym c.draw_first.ensures.v))
+
+pub move_over-requires-clause-items_bounded : goal.move_over-requires-clause-items_bounded
+move_over-requires-clause-items_bounded g c =
     let b = c.args.box_node.now in
     let xs = c.args.left.items.now in
     let i = c.args.left.from in
-    let x : Node = nodes.Glyph c.in-Horizontal-Some-Glyph.glyph in
+    omega (
+      arith,
+      ap (λ (r : WalkSums). r.passed) c.requires.cursor,
+      reached-passed b.kind b.setting (take i xs),
+      length-take-le i xs (omega (arith, c.requires.within)),
+      c.draw_run-next.ensures.onward,
+      c.draw_run-next.ensures.within,
+      c.requires.items_bounded,
+    )
+
+pub returns-clause-cursor : goal.returns-clause-cursor
+returns-clause-cursor g c =
+    let b = c.args.box_node.now in
+    let h = c.args.begin.now.h in
+    let v = c.args.begin.now.v in
+    let xs = c.args.left.items.now in
+    let i = c.args.left.from in
+    let n = c.draw_run-next.result in
+    let from = c.args.walk.now.cursor in
+    let at = c.in-Horizontal-Some-Glyph.at in
+    let glyph = c.in-Horizontal-Some-Glyph.glyph in
     let at_i = subst (λ (y : Node). y ≡ get_or xs i y) c.in-Horizontal-Some-Glyph.is-2 c.index-items-from.is in
-    c.in_ok-draw_first.ensures.cursor
-    ∙ (ap (λ r. one_more b.kind b.setting r x) c.requires.cursor ∙ reached-more b.kind b.setting xs i x c.requires.within at_i)
+    let here = sym c.requires.here ∙ c.in-Horizontal-Some-Glyph.is-1 in
+    let there = glyph-next b h v from at glyph c.in-Horizontal-Some-Glyph.is-0 here
+    ∙ ap (option_map (level_with at.v)) (c.in_ok-draw_first.ensures.end c.if-not-branch.false) in
+    let begin = ends b h v from at (level_with at.v c.draw_first.new.run.h) glyph c.in-Horizontal-Some-Glyph.is-0 here there in
+    sums_of_run b xs i n glyph from c.move_over.new.self at.h c.draw_first.new.run.h c.draw_run-next.new.run.h _ _ c.in-Horizontal-Some-Glyph.is-0
+    c.requires.within at_i c.requires.cursor c.move_over.ensures (omega (arith, ints, c.exact_sub.ensures.value)) begin
+    (omega (arith, c.draw_run-next.ensures.onward, c.draw_run-next.ensures.within, c.requires.items_bounded)) c.draw_run-next.ensures.within c.draw_run-next.ensures.natural
+    c.draw_run-next.ensures.shares
+
+pub returns-clause-here : goal.returns-clause-here
+returns-clause-here g c =
+    let b = c.args.box_node.now in
+    let h = c.args.begin.now.h in
+    let v = c.args.begin.now.v in
+    let xs = c.args.left.items.now in
+    let i = c.args.left.from in
+    let n = c.draw_run-next.result in
+    let from = c.args.walk.now.cursor in
+    let at = c.in-Horizontal-Some-Glyph.at in
+    let glyph = c.in-Horizontal-Some-Glyph.glyph in
+    let at_i = subst (λ (y : Node). y ≡ get_or xs i y) c.in-Horizontal-Some-Glyph.is-2 c.index-items-from.is in
+    let here = sym c.requires.here ∙ c.in-Horizontal-Some-Glyph.is-1 in
+    let there = glyph-next b h v from at glyph c.in-Horizontal-Some-Glyph.is-0 here
+    ∙ ap (option_map (level_with at.v)) (c.in_ok-draw_first.ensures.end c.if-not-branch.false) in
+    let begin = ends b h v from at (level_with at.v c.draw_first.new.run.h) glyph c.in-Horizontal-Some-Glyph.is-0 here there in
+    let sums = sums_of_run b xs i n glyph from c.move_over.new.self at.h c.draw_first.new.run.h c.draw_run-next.new.run.h _ _ c.in-Horizontal-Some-Glyph.is-0
+    c.requires.within at_i c.requires.cursor c.move_over.ensures (omega (arith, ints, c.exact_sub.ensures.value)) begin
+    (omega (arith, c.draw_run-next.ensures.onward, c.draw_run-next.ensures.within, c.requires.items_bounded)) c.draw_run-next.ensures.within c.draw_run-next.ensures.natural
+    c.draw_run-next.ensures.shares in
+    sym (ap (λ (r : WalkSums). point_in b h v (place_at b.setting r)) sums ∙ c.draw_run-next.ensures.at)
 
 pub returns-clause-left : goal.returns-clause-left
 returns-clause-left g c =
@@ -42,10 +114,16 @@ returns-clause-left g c =
     let v = c.args.begin.now.v in
     let xs = c.args.left.items.now in
     let i = c.args.left.from in
-    let x : Node = nodes.Glyph c.in-Horizontal-Some-Glyph.glyph in
+    let from = c.args.walk.now.cursor in
+    let at = c.in-Horizontal-Some-Glyph.at in
+    let glyph = c.in-Horizontal-Some-Glyph.glyph in
+    let x : Node = nodes.Glyph glyph in
     let at_i = subst (λ (y : Node). y ≡ get_or xs i y) c.in-Horizontal-Some-Glyph.is-2 c.index-items-from.is in
-    let here = item_fits b h v (take i xs) x c.args.walk.now.cursor true c.requires.cursor (sym c.if-not-branch.false ∙ c.in_ok-draw_first.ensures.fits) in
-    c.draw_run-next.ensures.left ∙ rest_of_and true _ _ refl (rest_of_and _ _ _ here (sym (fits_more b h v xs i x c.requires.within at_i)))
+    let here = sym c.requires.here ∙ c.in-Horizontal-Some-Glyph.is-1 in
+    let there = glyph-next b h v from at glyph c.in-Horizontal-Some-Glyph.is-0 here
+    ∙ ap (option_map (level_with at.v)) (c.in_ok-draw_first.ensures.end c.if-not-branch.false) in
+    c.draw_run-next.ensures.left
+    ∙ glyph_passed b h v xs i glyph from at (level_with at.v c.draw_first.new.run.h) c.requires.within at_i c.requires.cursor here there
 
 pub returns-clause-marks : goal.returns-clause-marks
 returns-clause-marks g c =
@@ -54,14 +132,16 @@ returns-clause-marks g c =
     let v = c.args.begin.now.v in
     let xs = c.args.left.items.now in
     let i = c.args.left.from in
-    let x : Node = nodes.Glyph c.in-Horizontal-Some-Glyph.glyph in
+    let from = c.args.walk.now.cursor in
+    let at = c.in-Horizontal-Some-Glyph.at in
+    let glyph = c.in-Horizontal-Some-Glyph.glyph in
+    let x : Node = nodes.Glyph glyph in
     let at_i = subst (λ (y : Node). y ≡ get_or xs i y) c.in-Horizontal-Some-Glyph.is-2 c.index-items-from.is in
+    let here = sym c.requires.here ∙ c.in-Horizontal-Some-Glyph.is-1 in
     let later = drawn_left b h v xs (i + 1) in
-    let drawn = g.S.MarkSink.drawn_with b.kind in
     let first = c.args.sink.now in
     let marked = c.draw_first.new.sink in
-    let seen = marked_at b h v (place_at b.setting c.args.walk.now.cursor) x later in
-    let mark = item_marks b h v (take i xs) x c.args.walk.now.cursor later seen c.requires.cursor refl in
-    let so_far : drawn first (drawn_left b h v xs i) ≡ drawn marked later =
-    ap (drawn first) (drawn_more b h v xs i x c.requires.within at_i ∙ sym mark) ∙ c.in_ok-draw_first.ensures.mark c.if-not-branch.false later in
+    let so_far = across-so (λ (kind : Kind). g.S.MarkSink.drawn_with kind first) (λ (kind : Kind). g.S.MarkSink.drawn_with kind marked) b.kind _ _ later
+    c.in-Horizontal-Some-Glyph.is-0 (glyph_drawn b h v xs i glyph from at c.in-Horizontal-Some-Glyph.is-0 c.requires.within at_i c.requires.cursor here)
+    (c.in_ok-draw_first.ensures.mark c.if-not-branch.false later) in
     c.draw_run-next.ensures.marks ∙ sym so_far

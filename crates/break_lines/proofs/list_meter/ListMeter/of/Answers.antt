@@ -9,19 +9,19 @@ use Rattle.break_lines.proofs.list_meter.ListMeter.of.Goals as goal
 
 pub is_steady-steady-requires : goal.is_steady-steady-requires
 is_steady-steady-requires c =
-    let marked : IsMarked c.args.nodes.now c.in-Some.marks.items = rw c.in-Some.is at c.in_ok-marks.ensures in
+    let marked : IsMarked c.args.nodes.now c.in-Some.marked.marks.items = rw c.in-Some.is at c.in_ok-marked.ensures.marks in
     record { marks_bounded = subst AreSmallMarks (sym c.deref.ensures.value) marked.small }
 
 pub is_even-even-requires : goal.is_even-even-requires
 is_even-even-requires c =
-    let marked : IsMarked c.args.nodes.now c.in-Some.marks.items = rw c.in-Some.is at c.in_ok-marks.ensures in
+    let marked : IsMarked c.args.nodes.now c.in-Some.marked.marks.items = rw c.in-Some.is at c.in_ok-marked.ensures.marks in
     record { marks_bounded = subst AreSmallMarks (sym c.deref-2.ensures.value) marked.small }
 
 pub invariant_of-result : goal.invariant_of-result
 invariant_of-result c =
     let list = c.args.nodes.now in
-    let marks = c.in-Some.marks.items in
-    let marked : IsMarked list marks = rw c.in-Some.is at c.in_ok-marks.ensures in
+    let marks = c.in-Some.marked.marks.items in
+    let marked : IsMarked list marks = rw c.in-Some.is at c.in_ok-marked.ensures.marks in
     let long : c.len.result ≡ length marks = search rules in
     record {
       nodes_bounded = c.requires.list_bounded;
@@ -31,6 +31,6 @@ invariant_of-result c =
       mark_sums_bounded = marked.small;
       rises = λ rising. c.is_steady-steady.ensures.yes list (c.deref.ensures.value ∙ marked.marks) rising;
       falls = λ steady. c.is_steady-steady.ensures.no list (c.deref.ensures.value ∙ marked.marks) steady;
-      evens = λ even. c.is_even-even.ensures list (c.deref-2.ensures.value ∙ marked.marks) even;
+      evens = λ even. c.is_even-even.ensures list (c.deref-2.ensures.value ∙ marked.marks) (rw c.in-Some.is at c.in_ok-marked.ensures.grows) even;
       counted = ap length c.in_ok-trials.ensures ∙ length-replicate c.len.result 0 ∙ long;
     }

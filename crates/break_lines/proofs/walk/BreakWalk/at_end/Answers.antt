@@ -8,7 +8,7 @@ use Rattle.break_lines.specs.Private.SmallMarks.{AreSmallMarks}
 use Rattle.break_lines.proofs.Ends.{end_is_legal}
 use Rattle.break_lines.proofs.Places.{lead_end}
 use Rattle.break_lines.proofs.Smalls.{none}
-use Rattle.break_lines.proofs.Walks.{marks_more, small_more, end_mark, none_left, none_dropped}
+use Rattle.break_lines.proofs.Walks.{marks_more, small_more, end_mark, none_left, none_dropped, none_negative}
 use Rattle.break_lines.proofs.walk.BreakWalk.at_end.Goals as goal
 
 pub returns : goal.returns
@@ -27,4 +27,5 @@ returns c =
       from_begin = λ _. none_left list;
       small_begin = none max_nodes;
       finite = none_dropped list;
+      grows = λ on. none_negative list;
     }

@@ -8,8 +8,8 @@ use Rattle.break_lines.proofs.Smalls.{wide}
 use Rattle.break_lines.proofs.Walks.{small_more, not_refused}
 use Rattle.break_lines.proofs.walk.BreakWalk.into_marks.Goals as goal
 
-pub returns : goal.returns
-returns c =
+pub returns-clause-marks : goal.returns-clause-marks
+returns-clause-marks c =
     let list = c.args.nodes.now in
     let w = c.args.self in
     let old = c.requires.walked in
@@ -22,3 +22,6 @@ returns c =
       marks = items ∙ reverse-append w.marks.items (mark ∷ []) ∙ ap (λ m. m ∷ reverse w.marks.items) here ∙ ap (λ ms. start_mark list ∷ ms) old.marks;
       small = subst AreSmallMarks (sym items) (small_more w.marks.items mark (record { from_position = small; from_begin = small }) old.small_marks);
     }
+
+pub returns-clause-grows : goal.returns-clause-grows
+returns-clause-grows c = λ on. c.requires.walked.grows on

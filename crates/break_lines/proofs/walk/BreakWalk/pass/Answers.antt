@@ -7,7 +7,7 @@ use Rattle.break_lines.specs.LineItems.{sums_of}
 use Rattle.break_lines.specs.Private.Marks.{plus, amounts_of, measured_break}
 use Rattle.break_lines.specs.Private.SmallMarks.{IsPrefix, AreSmallMarks}
 use Rattle.break_lines.proofs.Smalls.{wide}
-use Rattle.break_lines.proofs.Walks.{sums_back, next_dropped, one_kept, finite_more, marks_stay, marks_more, start_known, start_small, small_more, too_many}
+use Rattle.break_lines.proofs.Walks.{sums_back, next_dropped, one_kept, finite_more, grows_more, marks_stay, marks_more, start_known, start_small, small_more, too_many}
 use Rattle.break_lines.proofs.walk.BreakWalk.pass.Goals as goal
 
 pub returns-then-not-is_dropped-clause-goes_on : goal.returns-then-not-is_dropped-clause-goes_on
@@ -46,6 +46,7 @@ returns-then-not-is_legal-clause-goes_on c goes =
       from_begin = λ _. start_known list (i + 1) w.begin w.sums w.from_begin c.line_start.result.now c.line_start.ensures.here c.line_start.ensures.later old.sums old.from_begin;
       small_begin = start_small (i + 1) w.begin w.sums w.from_begin c.line_start.result.now c.line_start.ensures.here c.line_start.ensures.later now old.small_begin;
       finite = finite_more list i x within is (sym c.shrinks_infinitely.ensures ∙ c.if-shrinks_infinitely.false) old.finite;
+      grows = λ on. grows_more list i x within is (c.still_grows-self.ensures.here on) (old.grows (c.still_grows-self.ensures.before on));
     }
 
 pub returns-then-len-ge-MAX_PLACES-clause-stops : goal.returns-then-len-ge-MAX_PLACES-clause-stops
@@ -90,4 +91,5 @@ returns-clause-goes_on c goes =
       from_begin = λ _. start;
       small_begin = small_start;
       finite = finite_more list i x within is (sym c.shrinks_infinitely.ensures ∙ c.if-shrinks_infinitely.false) old.finite;
+      grows = λ on. grows_more list i x within is (c.still_grows-self.ensures.here on) (old.grows (c.still_grows-self.ensures.before on));
     }

@@ -5,7 +5,7 @@ use Rattle.break_lines.proofs.walk.BreakWalk.pass_run.Given as goal
 abbrev pub invariant-loop-index : goal.invariant-loop-index
 invariant-loop-index l = record {
   within : l.index ≤ l.end;
-  walked : HasMeasuredFrom l.nodes l.index l.self;
+  walked : HasMeasuredFrom l.nodes l.index (record l.self { sums = record l.self.sums { width = l.width }; begin = l.begin });
 }
 
 abbrev pub decreases-loop-index : goal.decreases-loop-index
