@@ -10,7 +10,7 @@ ghost use Rattle.job_machine.specs.Machine.{reply_by, state_by};
 use job_machine::{Answer, Refusal, Reply};
 use node_core::Node;
 use node_core::limits::MAX_ITEMS;
-use shape_core::{Missing, shape_character, shape_text};
+use shape_core::{Missing, ShapeFault, shape_character, shape_text};
 use std::alloc::AllocError;
 use tfm_core::LoadedFont;
 
@@ -61,8 +61,11 @@ pub fn append_text(
     }
     let before = items.len();
     items.reserve(text.len().min(MAX_ITEMS - before))?;
-    let missing = shape_text(&loaded.font, slot, text, items)?;
-    Ok(keep_shaped(items, before, missing))
+    match shape_text(&loaded.font, slot, text, items) {
+        Ok(missing) => Ok(keep_shaped(items, before, missing)),
+        Err(ShapeFault::ListTooLong) => Ok(Err(Refusal::ListTooLong)),
+        Err(ShapeFault::OutOfMemory) => Err(AllocError),
+    }
 }
 
 /// Shapes one character as a word of its own, and appends its items to those of an open list.

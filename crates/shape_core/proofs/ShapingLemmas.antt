@@ -71,27 +71,34 @@ pub on_refused : {T E P : Type 0} (r : Result T E) → P → OnErr r P
 on_refused (Ok x) p = tt
 on_refused (Err e) p = p
 
--- Items were appended, so there are some.
-pub some_added : {A : Type 0} (old now items rest all : List A) → take (length old) now ≡ old → old ++ all ≡ now ++ (items ++ rest) → items ≢ [] → all ≢ []
-some_added old now [] rest all front e some = absurd (some refl)
-some_added old now (x ∷ items) rest all front e some = λ none.
-    let sizes : length old + length all ≡ length now + (length (x ∷ items) + length rest) =
-    sym (length-append old all) ∙ ap length e ∙ length-append now ((x ∷ items) ++ rest) ∙ ap (λ n. length now + n) (length-append (x ∷ items) rest) in
-    omega (arith, sizes, ap length none, ap length front, length-take (length old) now, min-le_right (length old) (length now))
+-- Of all items fewer were appended than there are: so there are some.
+pub some_where_fewer : {A : Type 0} (old now all whole : List A) → whole ≡ all → take (length old) now ≡ old → length now < length old + length whole → all ≢ []
+some_where_fewer old now all whole same front fewer = λ none.
+    omega (arith, fewer, ap length same, ap length none, ap length front, length-take (length old) now, min-le_right (length old) (length now))
 
--- Memory is refused where a character becomes items.
-pub turn-some : (slot : ℕ) (sizes : ℕ → Option Sizes) (steps : ℕ → ℕ → Option Step) (c : ℕ) (word : List ℕ) (i : ℕ) (old now all : List Node)
-    (o : Outcome) → i < length word → take (length old) now ≡ old → old ++ all ≡ now ++ items_from slot sizes steps c (drop i word)
-    → o ≡ outcome_at sizes steps c (Some (get_or word i 0)) → outcome_items slot c o ≢ [] → all ≢ []
-turn-some slot sizes steps c word i old now all o h front e eo some =
-    some_added old now (outcome_items slot c o) (items_from slot sizes steps (outcome_next (get_or word i 0) o) (drop (i + 1) word)) all front (rw eo (e ∙ ap (λ xs. now ++ xs) (items_from-turn slot sizes steps c word i h))) some
+-- Fewer items were appended than some, so fewer than those and the rest.
+pub fewer_added : {A : Type 0} (old now new items rest all : List A) → old ++ all ≡ now ++ (items ++ rest) → length new < length now + length items
+    → length new < length old + length all
+fewer_added old now new items rest all e fewer =
+    let sizes : length old + length all ≡ length now + (length items + length rest) =
+    sym (length-append old all) ∙ ap length e ∙ length-append now (items ++ rest) ∙ ap (λ n. length now + n) (length-append items rest) in
+    omega (arith, sizes, fewer)
 
-pub end-some : (slot : ℕ) (sizes : ℕ → Option Sizes) (steps : ℕ → ℕ → Option Step) (c : ℕ) (word : List ℕ) (i : ℕ) (old now all : List Node)
-    (o : Outcome) → length word ≤ i → take (length old) now ≡ old → old ++ all ≡ now ++ items_from slot sizes steps c (drop i word)
-    → o ≡ outcome_at sizes steps c None → outcome_items slot c o ≢ [] → all ≢ []
-end-some slot sizes steps c word i old now all o past front e eo some =
-    some_added old now (outcome_items slot c o) [] all front
-    (e ∙ ap (λ xs. now ++ items_from slot sizes steps c xs) (drop_of_length-le word past) ∙ ap (λ o. now ++ outcome_items slot c o) (sym eo) ∙ ap (λ xs. now ++ xs) (sym (append-nil (outcome_items slot c o)))) some
+-- An item of a character is refused.
+pub turn-fewer : (slot : ℕ) (sizes : ℕ → Option Sizes) (steps : ℕ → ℕ → Option Step) (c : ℕ) (word : List ℕ) (i : ℕ) (old now new all : List Node)
+    (o : Outcome) → i < length word → old ++ all ≡ now ++ items_from slot sizes steps c (drop i word)
+    → o ≡ outcome_at sizes steps c (Some (get_or word i 0)) → length new < length now + length (outcome_items slot c o)
+    → length new < length old + length all
+turn-fewer slot sizes steps c word i old now new all o h e eo fewer =
+    fewer_added old now new (outcome_items slot c o) (items_from slot sizes steps (outcome_next (get_or word i 0) o) (drop (i + 1) word)) all
+    (rw eo (e ∙ ap (λ xs. now ++ xs) (items_from-turn slot sizes steps c word i h))) fewer
+
+pub end-fewer : (slot : ℕ) (sizes : ℕ → Option Sizes) (steps : ℕ → ℕ → Option Step) (c : ℕ) (word : List ℕ) (i : ℕ) (old now new all : List Node)
+    (o : Outcome) → length word ≤ i → old ++ all ≡ now ++ items_from slot sizes steps c (drop i word) → o ≡ outcome_at sizes steps c None
+    → length new < length now + length (outcome_items slot c o) → length new < length old + length all
+end-fewer slot sizes steps c word i old now new all o past e eo fewer =
+    fewer_added old now new (outcome_items slot c o) [] all
+    (e ∙ ap (λ xs. now ++ items_from slot sizes steps c xs) (drop_of_length-le word past) ∙ ap (λ o. now ++ outcome_items slot c o) (sym eo) ∙ ap (λ xs. now ++ xs) (sym (append-nil (outcome_items slot c o)))) fewer
 
 -- What a character becomes, by the cases of its shaping.
 Shaping-case : (slot : ℕ) (sizes : ℕ → Option Sizes) (steps : ℕ → ℕ → Option Step) (c d : ℕ) (word : List ℕ) (size : Option Sizes)

@@ -1,5 +1,5 @@
 -- Parts of a text.
-use Rattle.std.proofs.Common.{◌≡◌, ◌≢◌, ℕ, suc, ◌+◌, ◌++◌, ◌<◌, ◌≤◌, Bool, true, false, not, cond, List, [], ◌∷◌, Option, length, take, drop, get_or, refl, ap, sym, ◌∙◌, arith, append_assoc, append-nil}
+use Rattle.std.proofs.Common.{◌≡◌, ℕ, suc, ◌+◌, ◌++◌, ◌<◌, ◌≤◌, Bool, true, false, not, cond, List, [], ◌∷◌, Option, length, take, drop, get_or, refl, ap, sym, ◌∙◌, arith, append_assoc, append-nil}
 use Rattle.std.specs.List.{flat_map, prefix_len, sum_by}
 use Rattle.std.proofs.lemmas.List.Sums.{sum_by-cons}
 pub use Rattle.std.proofs.lemmas.List.Sums.{prefix_len-le-length}
@@ -8,7 +8,7 @@ use Rattle.node_core.specs.declared.tree.Glue.{Glue}
 use Rattle.node_core.specs.declared.tree.Node.{Node}
 use Rattle.scaled_core.specs.declared.sizes.Sizes.{Sizes}
 use Rattle.tfm_core.specs.declared.font.Step.{Step}
-use Rattle.shape_core.proofs.ShapingLemmas.{some_added}
+use Rattle.shape_core.proofs.ShapingLemmas.{fewer_added}
 use Rattle.shape_core.specs.Texts.{TextPart, spaces, word, is_other, is_space, parts_with, part_items, part_missing, parts_of, text_items, text_missing}
 use Rattle.shape_core.specs.Private.Texts.{part_length, part_of}
 
@@ -180,13 +180,14 @@ text_missing-part sizes steps text part rest k all n m h l p r e f =
     rw (p, r, l) (text_missing-turn sizes steps text h) in
     omega (arith, turned, e, f)
 
--- Memory is refused where a part has items.
-pub text_items-some : (slot : ℕ) (sizes : ℕ → Option Sizes) (steps : ℕ → ℕ → Option Step) (blank : Glue) (text part : List ℕ) (k : ℕ)
-    (old now all : List Node) → 0 < length text → k ≡ part_length text → part ≡ take k text → take (length old) now ≡ old
-    → old ++ all ≡ now ++ text_items slot sizes steps blank text → part_items slot sizes steps blank (part_of part) ≢ [] → all ≢ []
-text_items-some slot sizes steps blank text part k old now all h l p front e some =
-    some_added old now (part_items slot sizes steps blank (part_of part)) (text_items slot sizes steps blank (drop k text)) all front
-    (rw (p, l) (e ∙ ap (λ xs. now ++ xs) (text_items-turn slot sizes steps blank text h))) some
+-- An item of a part is refused.
+pub text_items-fewer : (slot : ℕ) (sizes : ℕ → Option Sizes) (steps : ℕ → ℕ → Option Step) (blank : Glue) (text part : List ℕ) (k : ℕ)
+    (old now new all : List Node) → 0 < length text → k ≡ part_length text → part ≡ take k text
+    → old ++ all ≡ now ++ text_items slot sizes steps blank text → length new < length now + length (part_items slot sizes steps blank (part_of part))
+    → length new < length old + length all
+text_items-fewer slot sizes steps blank text part k old now new all h l p e fewer =
+    fewer_added old now new (part_items slot sizes steps blank (part_of part)) (text_items slot sizes steps blank (drop k text)) all
+    (rw (p, l) (e ∙ ap (λ xs. now ++ xs) (text_items-turn slot sizes steps blank text h))) fewer
 
 -- The end of the loop.
 pub text_items-end : (slot : ℕ) (sizes : ℕ → Option Sizes) (steps : ℕ → ℕ → Option Step) (blank : Glue) (text : List ℕ) (nodes all : List Node)

@@ -1,15 +1,18 @@
 //! Texts: words with spaces between them.
 
-ghost use Rattle.std.specs.Prelude.{◌≡◌, ◌≢◌, ◌≤◌, ◌<◌, ◌++◌, ◌∷◌, [], length, take, OnOk, OnErr, IfOk};
+ghost use Rattle.std.specs.Prelude.{◌≡◌, ◌≢◌, ◌≤◌, ◌<◌, ◌+◌, ◌++◌, ◌∷◌, [], Err, length, take, OnOk, OnErr, IfOk};
 ghost use Rattle.std.specs.List.{prefix_len};
+ghost use Rattle.node_core.specs.declared.limits.TheConstants.{MAX_ITEMS};
 ghost use Rattle.shape_core.specs.Shaping.{shaped_items, shaped_missing};
 ghost use Rattle.shape_core.specs.Private.Fronts.{first_part};
 ghost use Rattle.shape_core.specs.Texts.{is_space, part_items, part_missing, text_items, text_missing};
 ghost use Rattle.shape_core.specs.Private.Texts.{part_length};
 
+use crate::fault::ShapeFault;
 use crate::metrics::Metrics;
-use crate::word::{Missing, ShapedFront, push, shape, shape_front};
+use crate::word::{Missing, ShapedFront, admit, push, shape, shape_front};
 use node_core::Node;
+use node_core::limits::MAX_ITEMS;
 use std::alloc::AllocError;
 use std::mem::replace;
 
@@ -23,13 +26,14 @@ fn space_count(text: &[u8]) -> usize
     text.iter().take_while(|c| **c == b' ').count()
 }
 
-/// Appends the items of the run of spaces or of the word that begins a text.
+/// Appends the items of the run of spaces or of the word that begins a text; if one is refused, only those before it.
 #[inline(always)]
 #[tactic(auto, using(crate::proofs::FrontLemmas::parts))]
 fn shape_part<M: Metrics>(
     metrics: &M,
     slot: u8,
     text: &[u8],
+    limit: usize,
     nodes: &mut Vec<Node>,
 ) -> Result<ShapedFront, AllocError>
     requires { 0 < length text.now }
@@ -39,25 +43,28 @@ fn shape_part<M: Metrics>(
     ensures length { IfOk result (λ shaped. shaped.length ≡ part_length text.now) }
     ensures missing_bounded { IfOk result (λ shaped. shaped.missing ≤ shaped.length) }
     ensures front { take (length nodes.old.items) nodes.new.items ≡ nodes.old.items }
-    ensures growth { OnErr result (part_items slot (M.sizes metrics.now) (M.steps metrics.now) (M.blank metrics.now) (first_part text.now) ≢ []) }
+    ensures fewer { OnErr result (length nodes.new.items < length nodes.old.items
+        + length (part_items slot (M.sizes metrics.now) (M.steps metrics.now) (M.blank metrics.now) (first_part text.now))) }
 {
     if text[0] == b' ' {
+        admit(limit, nodes)?;
         push(Node::Glue(metrics.space()), nodes)?;
         return Ok(ShapedFront {
             missing: 0,
             length: space_count(text),
         });
     }
-    shape_front(metrics, slot, text, true, nodes)
+    shape_front(metrics, slot, text, true, limit, nodes)
 }
 
-/// Appends the items of a text; if memory is refused, only the first of them.
+/// Appends the items of a text; if one is refused, only those before it.
 #[inline(always)]
 #[tactic(auto, using(crate::proofs::TextLemmas::turns))]
 fn shape_parts<M: Metrics>(
     metrics: &M,
     slot: u8,
     mut text: &[u8],
+    limit: usize,
     nodes: &mut Vec<Node>,
 ) -> Result<Missing, AllocError>
     ensures ok { OnOk result (nodes.new.items ≡ nodes.old.items ++ text_items slot (M.sizes metrics.now) (M.steps metrics.now)
@@ -65,11 +72,12 @@ fn shape_parts<M: Metrics>(
     ensures number { IfOk result (λ missing. missing.characters ≡ text_missing (M.sizes metrics.now) (M.steps metrics.now) text.now) }
     ensures missing_bounded { IfOk result (λ missing. missing.characters ≤ length text.now) }
     ensures front { take (length nodes.old.items) nodes.new.items ≡ nodes.old.items }
-    ensures growth { OnErr result (text_items slot (M.sizes metrics.now) (M.steps metrics.now) (M.blank metrics.now) text.now ≢ []) }
+    ensures fewer { OnErr result (length nodes.new.items < length nodes.old.items
+        + length (text_items slot (M.sizes metrics.now) (M.steps metrics.now) (M.blank metrics.now) text.now)) }
 {
     let mut characters = 0;
     while !text.is_empty() {
-        let part = shape_part(metrics, slot, text, nodes)?;
+        let part = shape_part(metrics, slot, text, limit, nodes)?;
         characters += part.missing;
         text = text.split_at(part.length).1;
     }
@@ -78,31 +86,43 @@ fn shape_parts<M: Metrics>(
 
 /// Appends the items of a text in the font of this slot, and returns how many of its characters the font does not have. Each run of spaces becomes
 /// one glue of the font, and the words between them are shaped. If memory is refused, `nodes` is as it was before the call. A text without items
-/// takes no memory.
+/// takes no memory. ListTooLong is answered where memory would have to be taken for an item above `MAX_ITEMS`: shaping ends there, and `nodes` is as
+/// it was before the call.
 pub fn shape_text<M: Metrics>(
     metrics: &M,
     slot: u8,
     text: &[u8],
     nodes: &mut Vec<Node>,
-) -> Result<Missing, AllocError>
+) -> Result<Missing, ShapeFault>
     ensures ok { OnOk result (nodes.new.items ≡ nodes.old.items ++ text_items slot (M.sizes metrics.now) (M.steps metrics.now)
         (M.blank metrics.now) text.now) }
     ensures number { IfOk result (λ missing. missing.characters ≡ text_missing (M.sizes metrics.now) (M.steps metrics.now) text.now) }
     ensures missing_bounded { IfOk result (λ missing. missing.characters ≤ length text.now) }
     ensures err { OnErr result (nodes.new.items ≡ nodes.old.items) }
     ensures growth { OnErr result (text_items slot (M.sizes metrics.now) (M.steps metrics.now) (M.blank metrics.now) text.now ≢ []) }
+    ensures too_long { result ≡ Err ShapeFault.ListTooLong → MAX_ITEMS < length nodes.old.items
+        + length (text_items slot (M.sizes metrics.now) (M.steps metrics.now) (M.blank metrics.now) text.now) }
 {
     let held = nodes.len();
     let alloc = *nodes.allocator();
     // The vector is moved here while it grows: as a value of this call it stays in registers, and its length is not written back after each
     // character.
     let mut items = replace(nodes, Vec::new(alloc));
-    let shaped = shape_parts(metrics, slot, text, &mut items);
+    let limit = MAX_ITEMS;
+    let shaped = shape_parts(metrics, slot, text, limit, &mut items);
     *nodes = items;
-    if shaped.is_err() {
-        nodes.truncate(held);
+    match shaped {
+        Ok(missing) => Ok(missing),
+        Err(AllocError) => {
+            let is_full = nodes.len() >= limit;
+            nodes.truncate(held);
+            if is_full {
+                Err(ShapeFault::ListTooLong)
+            } else {
+                Err(ShapeFault::OutOfMemory)
+            }
+        }
     }
-    shaped
 }
 
 /// Appends the glyph of one character in the font of this slot; it counts as missing if the font does not have it. A space is treated like any other

@@ -1,6 +1,6 @@
 //! Shaping of words.
 
-ghost use Rattle.std.specs.Prelude.{◌≡◌, ◌≢◌, ◌≤◌, ◌<◌, ◌++◌, ◌∷◌, [], List, None, Some, length, slice_get, take, OnOk, OnErr, IfOk};
+ghost use Rattle.std.specs.Prelude.{◌≡◌, ◌≢◌, ◌≤◌, ◌<◌, ◌+◌, ◌++◌, ◌∷◌, [], List, None, Some, length, slice_get, take, OnOk, OnErr, IfOk};
 ghost use Rattle.node_core.specs.declared.tree.Node.{Node};
 ghost use Rattle.shape_core.specs.Private.Fronts.{front_of};
 ghost use Rattle.shape_core.specs.Shaping.{Shaping, glyph_node, outcome_at, outcome_items, outcome_missing, outcome_next, outcome_of, shaped_items};
@@ -88,6 +88,17 @@ fn last_outcome<M: Metrics>(metrics: &M, code: u8) -> Outcome
     }
 }
 
+/// Refuses an item above the limit where memory would have to be taken for it. There is nearly always space, and then the limit costs nothing.
+#[inline(always)]
+pub(crate) fn admit(limit: usize, nodes: &Vec<Node>) -> Result<(), AllocError>
+    ensures { OnErr result (limit ≤ length nodes.now.items) }
+{
+    if nodes.len() >= nodes.capacity() && nodes.len() >= limit {
+        return Err(AllocError);
+    }
+    Ok(())
+}
+
 /// Appends an item. There is nearly always space for it, and then it is written in place.
 #[inline(always)]
 pub(crate) fn push(node: Node, nodes: &mut Vec<Node>) -> Result<(), AllocError>
@@ -130,18 +141,29 @@ impl Outcome {
         }
     }
 
-    /// Appends the items of a character; if memory is refused, only the first of them.
+    /// Appends the items of a character; if one is refused, only those before it.
     #[inline(always)]
-    fn append(&self, slot: u8, code: u8, nodes: &mut Vec<Node>) -> Result<(), AllocError>
+    fn append(
+        &self,
+        slot: u8,
+        code: u8,
+        limit: usize,
+        nodes: &mut Vec<Node>,
+    ) -> Result<(), AllocError>
         ensures ok { OnOk result (nodes.new.items ≡ nodes.old.items ++ outcome_items slot code self.now) }
         ensures front { take (length nodes.old.items) nodes.new.items ≡ nodes.old.items }
-        ensures growth { OnErr result (outcome_items slot code self.now ≢ []) }
+        ensures fewer { OnErr result (length nodes.new.items < length nodes.old.items + length (outcome_items slot code self.now)) }
     {
         match self {
             Outcome::Dropped => Ok(()),
-            Outcome::Alone(size) => push(glyph_node(slot, code, *size), nodes),
+            Outcome::Alone(size) => {
+                admit(limit, nodes)?;
+                push(glyph_node(slot, code, *size), nodes)
+            }
             Outcome::Kerned(size, width) => {
+                admit(limit, nodes)?;
                 push(glyph_node(slot, code, *size), nodes)?;
+                admit(limit, nodes)?;
                 push(Node::FontKern(*width), nodes)
             }
             Outcome::Joined(_) => Ok(()),
@@ -181,7 +203,7 @@ fn following_at(text: &[u8], index: usize, until_space: bool) -> Option<u8>
 }
 
 /// Appends the items of a word that begins a text: it ends before the first space if `until_space` is true, and is the whole text otherwise.
-/// If memory is refused, only the first of the items are appended.
+/// If one of the items is refused, only those before it are appended.
 #[inline(always)]
 #[tactic(auto, using(crate::proofs::FrontLemmas::starts))]
 pub(crate) fn shape_front<M: Metrics>(
@@ -189,6 +211,7 @@ pub(crate) fn shape_front<M: Metrics>(
     slot: u8,
     text: &[u8],
     until_space: bool,
+    limit: usize,
     nodes: &mut Vec<Node>,
 ) -> Result<ShapedFront, AllocError>
     requires { 0 < length (front_of until_space text.now) }
@@ -199,20 +222,21 @@ pub(crate) fn shape_front<M: Metrics>(
     ensures length { IfOk result (λ shaped. shaped.length ≡ length (front_of until_space text.now)) }
     ensures missing_bounded { IfOk result (λ shaped. shaped.missing ≤ length (front_of until_space text.now)) }
     ensures front { take (length nodes.old.items) nodes.new.items ≡ nodes.old.items }
-    ensures growth { OnErr result (shaped_items slot (M.sizes metrics.now) (M.steps metrics.now) (front_of until_space text.now) ≢ []) }
+    ensures fewer { OnErr result (length nodes.new.items < length nodes.old.items
+        + length (shaped_items slot (M.sizes metrics.now) (M.steps metrics.now) (front_of until_space text.now))) }
 {
     let mut code = text[0];
     let mut index = 1;
     let mut missing = 0;
     while let Some(following) = following_at(text, index, until_space) {
         let outcome = outcome_before(metrics, code, following);
-        outcome.append(slot, code, nodes)?;
+        outcome.append(slot, code, limit, nodes)?;
         missing += outcome.missing();
         code = outcome.next(following);
         index += 1;
     }
     let outcome = last_outcome(metrics, code);
-    outcome.append(slot, code, nodes)?;
+    outcome.append(slot, code, limit, nodes)?;
     Ok(ShapedFront {
         missing: missing + outcome.missing(),
         length: index,
@@ -240,7 +264,8 @@ pub fn shape<M: Metrics>(
         return Ok(Missing { characters: 0 });
     }
     let held = nodes.len();
-    match shape_front(metrics, slot, word, false, nodes) {
+    // No vector has so many items: a word has no limit.
+    match shape_front(metrics, slot, word, false, usize::MAX, nodes) {
         Ok(shaped) => Ok(Missing {
             characters: shaped.missing,
         }),

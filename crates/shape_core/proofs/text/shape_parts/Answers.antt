@@ -2,7 +2,7 @@ use Rattle.std.proofs.Common.{◌≡◌, ◌<◌, ◌≤◌, ◌+◌, length, ta
 use Rattle.scaled_core.proofs.Appending.{front_kept}
 use Rattle.shape_core.specs.Private.Texts.{part_length}
 use Rattle.shape_core.proofs.ShapingLemmas.{on_refused}
-use Rattle.shape_core.proofs.TextLemmas.{part_length-some, part_length-within, text_items-end, text_items-part, text_items-some, text_missing-none, text_missing-part}
+use Rattle.shape_core.proofs.TextLemmas.{part_length-some, part_length-within, text_items-end, text_items-fewer, text_items-part, text_missing-none, text_missing-part}
 use Rattle.shape_core.proofs.text.shape_parts.Goals as goal
 
 pub split_at-requires : goal.split_at-requires
@@ -41,10 +41,10 @@ returns-clause-number g c =
     let none : length c.loop-text.text.now ≡ 0 = search rules in
     omega (arith, c.loop-text.invariant.1, text_missing-none (g.M.Metrics.sizes c.args.metrics.now) (g.M.Metrics.steps c.args.metrics.now) c.loop-text.text.now none)
 
--- Memory is refused only where a part has items.
-pub returns-in_err-part-clause-growth : goal.returns-in_err-part-clause-growth
-returns-in_err-part-clause-growth g c =
+-- Where an item of a part is refused, fewer are appended than the text has.
+pub returns-in_err-part-clause-fewer : goal.returns-in_err-part-clause-fewer
+returns-in_err-part-clause-fewer g c =
     let text = c.loop-text.text.now in
     let some : 0 < length text = search rules in
     on_refused c.from_residual.result
-    (text_items-some c.args.slot (g.M.Metrics.sizes c.args.metrics.now) (g.M.Metrics.steps c.args.metrics.now) (g.M.Metrics.blank c.args.metrics.now) text (take (part_length text) text) (part_length text) _ _ _ some refl refl c.loop-text.invariant.2 c.loop-text.invariant.0 c.in_err-part.ensures.growth)
+    (text_items-fewer c.args.slot (g.M.Metrics.sizes c.args.metrics.now) (g.M.Metrics.steps c.args.metrics.now) (g.M.Metrics.blank c.args.metrics.now) text (take (part_length text) text) (part_length text) _ _ _ _ some refl refl c.loop-text.invariant.0 c.in_err-part.ensures.fewer)

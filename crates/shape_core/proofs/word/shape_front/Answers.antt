@@ -7,7 +7,7 @@ use Rattle.node_core.specs.declared.tree.Node.{Node}
 use Rattle.shape_core.specs.Private.Fronts.{front_of}
 use Rattle.shape_core.specs.Shaping.{outcome_at, outcome_next}
 use Rattle.shape_core.proofs.FrontLemmas.{ended, front-items, front-missing}
-use Rattle.shape_core.proofs.ShapingLemmas.{turn-items, turn-missing, end-items, end-missing, turn-some, end-some, on_refused}
+use Rattle.shape_core.proofs.ShapingLemmas.{turn-items, turn-missing, end-items, end-missing, turn-fewer, end-fewer, on_refused}
 use Rattle.shape_core.proofs.word.shape_front.Goals as goal
 
 pub loop-following-init : goal.loop-following-init
@@ -76,9 +76,9 @@ pub returns-clause-missing_bounded : goal.returns-clause-missing_bounded
 returns-clause-missing_bounded g c =
     omega (arith, c.loop-following.invariant.few, c.loop-following.invariant.within, c.missing.ensures.missing_bounded)
 
--- Memory is refused only where a character becomes items.
-pub returns-in_err-append-clause-growth : goal.returns-in_err-append-clause-growth
-returns-in_err-append-clause-growth g c =
+-- Where an item of a character is refused, fewer are appended than the word has.
+pub returns-in_err-append-clause-fewer : goal.returns-in_err-append-clause-fewer
+returns-in_err-append-clause-fewer g c =
     let sizes = g.M.Metrics.sizes c.args.metrics.now in
     let steps = g.M.Metrics.steps c.args.metrics.now in
     let word = front_of c.args.until_space c.args.text.now in
@@ -89,13 +89,13 @@ returns-in_err-append-clause-growth g c =
     let here : d ≡ get_or word l.index 0 = sym (get_or_from_slice_get word l.index d 0 at) in
     let outcome = c.outcome_before-outcome.ensures ∙ ap (λ x. outcome_at sizes steps l.code (Some x)) here in
     on_refused c.from_residual.result
-    (turn-some c.args.slot sizes steps l.code word l.index _ _ _ _ within l.invariant.front l.invariant.items outcome c.in_err-append.ensures.growth)
+    (turn-fewer c.args.slot sizes steps l.code word l.index _ _ _ _ _ within l.invariant.items outcome c.in_err-append.ensures.fewer)
 
-pub returns-in_err-append-2-clause-growth : goal.returns-in_err-append-2-clause-growth
-returns-in_err-append-2-clause-growth g c =
+pub returns-in_err-append-2-clause-fewer : goal.returns-in_err-append-2-clause-fewer
+returns-in_err-append-2-clause-fewer g c =
     let sizes = g.M.Metrics.sizes c.args.metrics.now in
     let steps = g.M.Metrics.steps c.args.metrics.now in
     let word = front_of c.args.until_space c.args.text.now in
     let past : length word ≤ c.loop-following.index = ended word c.loop-following.index (sym c.following_at.ensures ∙ c.in_default.is) in
     on_refused c.from_residual-in_err-append-2.result
-    (end-some c.args.slot sizes steps c.loop-following.code word c.loop-following.index _ _ _ _ past c.loop-following.invariant.front c.loop-following.invariant.items c.last_outcome-outcome.ensures c.in_err-append-2.ensures.growth)
+    (end-fewer c.args.slot sizes steps c.loop-following.code word c.loop-following.index _ _ _ _ _ past c.loop-following.invariant.items c.last_outcome-outcome.ensures c.in_err-append-2.ensures.fewer)
