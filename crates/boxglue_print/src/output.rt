@@ -84,9 +84,9 @@ fn painted_page(
     Ok(bitmap)
 }
 
-/// The bitmap of a page of a DVI file with these metric files, or the text of the file's refusal. No mark of another page is kept. The whole file is
-/// checked before NoSuchPage is returned, which is the fault exactly where it is accepted and has fewer pages, unless memory is refused: then it
-/// is OutOfMemory.
+/// The bitmap of a page of a DVI file with these metric files, or the text of the file's refusal. Of its marks the rules of the page alone are kept.
+/// The whole file is checked before NoSuchPage is returned, which is the fault exactly where it is accepted and has fewer pages, unless memory is
+/// refused: then it is OutOfMemory.
 pub fn page_bitmap(
     alloc: Global,
     dvi: &[u8],
@@ -106,7 +106,7 @@ pub fn page_bitmap(
     if opened.pages() <= index {
         return Err(PaintFault::NoSuchPage);
     }
-    let page = opened.page(index)?;
+    let page = opened.page_rules(index)?;
     let bitmap = painted_page(alloc, &page, opened.units(), options)?;
     Ok(Painting::Painted(bitmap))
 }

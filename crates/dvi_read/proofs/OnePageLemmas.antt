@@ -1,5 +1,5 @@
 -- The instructions of a checked file up to the beginning of a page, and those of the page.
-use Rattle.std.proofs.Common.{◌≡◌, ◌≤◌, ◌<◌, ◌+◌, ◌-◌, ◌++◌, if◌then◌else◌, [], ◌∷◌, Bool, true, false, List, drop, length, map, nat_lt, reverse, slice_get, take, suc, ℕ, ℤ, Option, Some, None, append-nil, append_assoc, arith, length-append, refl, sym, ◌∙◌, ap, ap₂, subst}
+use Rattle.std.proofs.Common.{◌≡◌, ◌≤◌, ◌<◌, ◌+◌, ◌-◌, ◌++◌, if◌then◌else◌, [], ◌∷◌, Bool, true, false, List, drop, filter, length, map, nat_lt, reverse, slice_get, take, suc, ℕ, ℤ, IfOk, Option, Some, None, Result, Ok, Err, append-nil, append_assoc, arith, length-append, refl, sym, ◌∙◌, ap, ap₂, subst}
 use Rattle.std.proofs.lemmas.Bool.{ltb-false, ltb-true}
 use Rattle.scaled_core.specs.Mark.{Mark}
 use Rattle.scaled_core.proofs.EachOf.{all_front}
@@ -11,25 +11,22 @@ use Rattle.dvi_ops.specs.Table.{Spells}
 use Rattle.dvi_ops.specs.Tokens.{Token, token_instructions}
 use Rattle.dvi_scan.proofs.ReachedLemmas.{token}
 use Rattle.dvi_scan.specs.Ends.{IsSpelledAt}
-use Rattle.dvi_scan.proofs.TurnLemmas.{broken_turn}
-use Rattle.dvi_scan.proofs.WidthLemmas.{one_width}
-use Rattle.dvi_scan.specs.Drawing.{constant_width}
-use Rattle.dvi_scan.specs.Execution.{BreaksTurn, inside_of}
 use Rattle.dvi_scan.specs.Pass.{PassStateView, Between, Inside, execute, passes, then_pass, with_marks}
-use Rattle.dvi_scan.specs.View.{mark_of, spot_position, dvi_state}
+use Rattle.dvi_scan.specs.View.{spot_position, dvi_state, marked_page}
 use Rattle.dvi_scan.specs.declared.executing.OpenPage.{OpenPage}
-use Rattle.dvi_scan.specs.declared.fault.DviCause.{DviCause}
-use Rattle.dvi_scan.specs.declared.page.Mark.{Mark as PassMark}
 use Rattle.dvi_scan.specs.declared.page.Position.{Position as Spot}
-use Rattle.dvi_read.specs.PageMarks.{read_width}
-use Rattle.dvi_read.specs.ReadFonts.{FontIsRead, HasCurrent, asked_width, code_in}
-use Rattle.dvi_read.specs.Private.OnePage.{EndsPage, HasRestAt}
-use Rattle.dvi_read.specs.ItemsLeft.{HasRest}
+use Rattle.dvi_scan.specs.declared.page.Page.{Page}
+use Rattle.dvi_read.specs.PageMarks.{read_width, rules_alone}
+use Rattle.dvi_read.specs.ReadFonts.{FontIsRead}
+use Rattle.dvi_read.specs.Private.OnePage.{HasRestAt, ShowsKept, is_kept}
+use Rattle.dvi_read.specs.Private.ShownPages.{ShowsPages}
+use Rattle.dvi_read.specs.ItemsLeft.{HasRest, pass_with}
 use Rattle.dvi_read.specs.Steps.{FontsAreRead}
 use Rattle.dvi_read.specs.declared.check.checked_file.CheckedFile.{CheckedFile}
 use Rattle.dvi_read.specs.declared.fonts.ReadFonts.{ReadFonts}
+use Rattle.dvi_read.specs.declared.seen_items.one_page.MarkChoice.TheVariants.{All, Rules}
 use Rattle.dvi_read.proofs.SeenLemmas.{Continues, end_turn}
-use Rattle.dvi_read.proofs.SeenItemLemmas.{asked_now, first_read, first_split, goes_on, no_tokens, none_left, rest_after, some_there}
+use Rattle.dvi_read.proofs.SeenItemLemmas.{first_read, first_split, goes_on, no_tokens, none_left, rest_after, some_there}
 
 -- The pages that have ended.
 abbrev pub pages_ended : PassStateView → List MarkedPage
@@ -153,27 +150,38 @@ module _ (file : CheckedFile) (pages : List MarkedPage) (index place : ℕ) (bop
         let rest = rest_after file.bytes.now next file.post file.most file.fonts bop.here pages i turned.after file.fonts file.fonts.current refl read turned.later in
         (earlier, sym begun ∙ bop.count, subst (λ (p : PassStateView). HasRestAt file next p pages) after rest)
 
--- An instruction of an open page.
-module _ (most : ℕ) (fonts : ReadFonts) (i : Instruction) (page : OpenPage) (current : (f : ℤ) → page.state.font ≡ Some f → HasCurrent f fonts) (pages : List MarkedPage) (after : PassStateView)
-    (turns : execute (bounded_acts (instruction_acts (read_width fonts))) most i (inside_of pages page) ≡ Some after) where
-  -- It does the same with the one width that was asked.
-  turned_by_one : execute (bounded_acts (instruction_acts (constant_width (asked_width fonts (code_in i))))) most i (inside_of pages page) ≡ Some after
-  turned_by_one = one_width (read_width fonts) (asked_width fonts (code_in i)) most i (inside_of pages page) (asked_now fonts i pages page current) ∙ turns
-
-  pub no_rule_broken : (cause : DviCause) → BreaksTurn (instruction_acts (constant_width (asked_width fonts (code_in i)))) most i (inside_of pages page) cause → ⊥
-  no_rule_broken cause broken =
-      let none = broken_turn (instruction_acts (constant_width (asked_width fonts (code_in i)))) most i (inside_of pages page) cause broken in
-      let both : Some after ≡ None = sym turned_by_one ∙ none in cc
-
-  pub drawn_on : (new : OpenPage) → execute (bounded_acts (instruction_acts (constant_width (asked_width fonts (code_in i))))) most i (inside_of pages page) ≡ Some (inside_of pages new)
-      → after ≡ inside_of pages new
-  drawn_on new turn = let both : Some after ≡ Some (inside_of pages new) = sym turned_by_one ∙ turn in cc
-
 -- A page that has begun, without marks and without saved places.
-pub page_opened : (before : List MarkedPage) (counts : List ℤ) (marks : List PassMark) (places : List Spot) → marks ≡ [] → places ≡ []
-    → Inside before counts [] [] start ≡ Inside before counts (map mark_of marks) (reverse (map spot_position places)) start
-page_opened before counts marks places no_marks no_places =
-    ap₂ (λ (ms : List PassMark) (ps : List Spot). Inside before counts (map mark_of ms) (reverse (map spot_position ps)) start) (sym no_marks) (sym no_places)
+pub page_opened : (before : List MarkedPage) (counts : List ℤ) (places : List Spot) (s : DviState) → places ≡ [] → s ≡ start
+    → Inside before counts [] [] start ≡ Inside before counts [] (reverse (map spot_position places)) s
+page_opened before counts places s no_places begun =
+    ap₂ (λ (ps : List Spot) (s : DviState). Inside before counts [] (reverse (map spot_position ps)) s) (sym no_places) (sym begun)
+
+-- All marks are kept.
+pub all_kept : (marks : List Mark) → filter (is_kept All) marks ≡ marks
+all_kept [] = refl
+all_kept (mark ∷ marks) = ap (λ (ms : List Mark). mark ∷ ms) (all_kept marks)
+
+abbrev pub page_of : (counts : List ℤ) (marks : List Mark) → MarkedPage
+page_of counts marks = record { counts = counts; marks = marks }
+
+-- A page with all its marks is one of those that the file shows.
+pub whole_page : {E : Type 0} (file : CheckedFile) (pages : List MarkedPage) (index : ℕ) (found : Result Page E) → ShowsPages file pages
+    → IfOk found (λ page. (pages : List MarkedPage) → ShowsPages file pages → ShowsKept All (marked_page page) index pages)
+    → IfOk found (λ page. slice_get pages index ≡ Some (marked_page page))
+whole_page file pages index (Ok page) shows kept =
+    let (marks, there, same) = kept pages shows in
+    let all : marks ≡ (marked_page page).marks = sym (same ∙ all_kept marks) in
+    there ∙ ap (λ (ms : List Mark). Some (page_of page.counts ms)) all
+whole_page file pages index (Err fault) shows kept = tt
+
+-- Or it has the rules of such a page alone.
+pub page_of_rules : {E : Type 0} (file : CheckedFile) (pages : List MarkedPage) (index : ℕ) (found : Result Page E) → ShowsPages file pages
+    → IfOk found (λ page. (pages : List MarkedPage) → ShowsPages file pages → ShowsKept Rules (marked_page page) index pages)
+    → IfOk found (λ page. (shown : MarkedPage) × (slice_get pages index ≡ Some shown) × (marked_page page ≡ rules_alone shown))
+page_of_rules file pages index (Ok page) shows kept =
+    let (marks, there, same) = kept pages shows in
+    (page_of page.counts marks, there, ap (λ (ms : List Mark). page_of page.counts ms) same)
+page_of_rules file pages index (Err fault) shows kept = tt
 
 -- The page after some others.
 page_after : (before later : List MarkedPage) (page : MarkedPage) → slice_get (before ++ page ∷ later) (length before) ≡ Some page
@@ -181,42 +189,42 @@ page_after [] later page = refl
 page_after (first ∷ before) later page = page_after before later page
 
 -- The rest of an open page.
-module _ (bytes : List ℕ) (at post most : ℕ) (fonts : ReadFonts) (before : List MarkedPage) (page : OpenPage) (pages : List MarkedPage)
-    (after_post : HasRest bytes at post most fonts [] (inside_of before page) pages) where
+module _ (bytes : List ℕ) (at post most : ℕ) (fonts : ReadFonts) (before : List MarkedPage) (marks : List Mark) (page : OpenPage) (pages : List MarkedPage)
+    (after_post : HasRest bytes at post most fonts [] (pass_with true before marks page) pages) where
   -- It does not end at the place of post.
   pub some_left : at < post
   some_left = by_size (nat_lt at post) refl
     where
       by_size : (b : Bool) → nat_lt at post ≡ b → at < post
       by_size true is = ltb-true at post is
-      by_size false is = (let here = none_left bytes at post most fonts (inside_of before page) pages (ltb-false at post is) after_post in absurd cc)
+      by_size false is = (let here = none_left bytes at post most fonts (pass_with true before marks page) pages (ltb-false at post is) after_post in absurd cc)
 
   module _ (i : Instruction) (next : ℕ) (forward : at < next) (within : next ≤ post) (spelled : Spells i (take (next - at) (drop at bytes))) where
-    pub read_here : HasRest bytes next post most fonts (i ∷ []) (inside_of before page) pages
-    read_here = first_read bytes at post most fonts (inside_of before page) pages i next forward within spelled after_post
+    pub read_here : HasRest bytes next post most fonts (i ∷ []) (pass_with true before marks page) pages
+    read_here = first_read bytes at post most fonts (pass_with true before marks page) pages i next forward within spelled after_post
 
-    pub turned_here : Continues (bounded_acts (instruction_acts (read_width fonts))) most i (token_instructions read_here.rest) (inside_of before page) (Between pages)
-    turned_here = goes_on bytes next post most fonts (inside_of before page) pages i read_here
+    pub turned_here : Continues (bounded_acts (instruction_acts (read_width fonts))) most i (token_instructions read_here.rest) (pass_with true before marks page) (Between pages)
+    turned_here = goes_on bytes next post most fonts (pass_with true before marks page) pages i read_here
 
     -- The font that it selects was read.
     pub fonts_read : FontsAreRead fonts (selection_of i)
     fonts_read = all_front (λ f. FontIsRead f fonts) (selection_of i) (selections (token_instructions read_here.rest)) read_here.read
 
-    -- The page goes on after it.
-    pub rest_drawn : (new : OpenPage)
-        → ((pages : List MarkedPage) (after : PassStateView) → execute (bounded_acts (instruction_acts (read_width fonts))) most i (inside_of pages page) ≡ Some after → after ≡ inside_of pages new)
-        → HasRest bytes next post most fonts [] (inside_of before new) pages
-    rest_drawn new draws =
-        subst (λ (p : PassStateView). HasRest bytes next post most fonts [] p pages) (draws before turned_here.after turned_here.turns)
-        (rest_after bytes next post most fonts (inside_of before page) pages i turned_here.after fonts fonts.current refl read_here turned_here.later)
+    -- The page goes on after it, with the marks that it made.
+    pub rest_drawn : (new : OpenPage) (made : List Mark)
+        → ((pages : List MarkedPage) (marks : List Mark) (after : PassStateView)
+        → execute (bounded_acts (instruction_acts (read_width fonts))) most i (pass_with true pages marks page) ≡ Some after → after ≡ pass_with true pages (marks ++ made) new)
+        → HasRest bytes next post most fonts [] (pass_with true before (marks ++ made) new) pages
+    rest_drawn new made draws =
+        subst (λ (p : PassStateView). HasRest bytes next post most fonts [] p pages) (draws before marks turned_here.after turned_here.turns)
+        (rest_after bytes next post most fonts (pass_with true before marks page) pages i turned_here.after fonts fonts.current refl read_here turned_here.later)
 
     -- The page ends with it.
-    pub page_ends : i ≡ Eop → EndsPage before page pages
+    pub page_ends : i ≡ Eop → slice_get pages (length before) ≡ Some (record { counts = page.counts; marks = marks })
     page_ends is =
         let does = bounded_acts (instruction_acts (read_width fonts)) in
-        let marks = map mark_of page.marks.items in
         let whole : MarkedPage = record { counts = page.counts; marks = marks } in
-        let turns = subst (λ (i : Instruction). execute (bounded_acts (instruction_acts (read_width fonts))) most i (inside_of before page) ≡ Some turned_here.after) is turned_here.turns in
+        let turns = subst (λ (i : Instruction). execute (bounded_acts (instruction_acts (read_width fonts))) most i (pass_with true before marks page) ≡ Some turned_here.after) is turned_here.turns in
         let after : turned_here.after ≡ Between (before ++ whole ∷ []) =
         end_turn does most before page.counts marks (reverse (map spot_position page.stack.items)) (dvi_state page.state)
         turned_here.after turns in

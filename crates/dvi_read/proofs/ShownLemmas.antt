@@ -72,6 +72,14 @@ as_many_places file pages shows =
     let many = pages_placed (bounded_acts (instruction_acts (read_width file.fonts))) file.most file.from has.rest (Between []) pages has.passed in
     omega (arith, placed, many, length-reverse file.places.items)
 
+-- A page that the file shows has a place.
+pub has_place : (file : CheckedFile) (pages all : List MarkedPage) (index : ℕ) → ShowsPages file pages → pages ≡ all → index < length all
+    → index < vec_len file.places
+has_place file pages all index shows same below =
+    let many = as_many_places file pages shows in
+    let size = ap (λ (ps : List MarkedPage). length ps) same in
+    omega (arith, below, many, size, file.places.ok.0)
+
 -- The bop at a place among some instructions.
 record FindsBop (does : Acts) (most at : ℕ) (ts : List Token) (p : PassStateView) (pages : List MarkedPage) (index place : ℕ) : Type 0 where
   pub before : List Token

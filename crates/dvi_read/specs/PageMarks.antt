@@ -1,7 +1,7 @@
 -- What a reader of a file knows of the marks of its pages: the places of the texts of specials, and the widths of glyphs (own; the marks are
 -- DVItype's, 15 and 16).
-use Rattle.std.specs.Prelude.{◌≡◌, ◌≤◌, ◌<◌, ◌+◌, ◌-◌, ◌*◌, ◌^◌, ◌++◌, [], ◌∷◌, ℕ, ℤ, List, Option, Some}
-use Rattle.std.specs.Prelude.{drop, length, option_and_then, take}
+use Rattle.std.specs.Prelude.{◌≡◌, ◌≤◌, ◌<◌, ◌+◌, ◌-◌, ◌*◌, ◌^◌, ◌++◌, [], ◌∷◌, Bool, true, false, ℕ, ℤ, List, Option, Some}
+use Rattle.std.specs.Prelude.{drop, filter, length, option_and_then, take}
 use Rattle.std.specs.List.{AllByRecursion, flat_map}
 use Rattle.dvi_ops.specs.File.{MarkedPage}
 use Rattle.dvi_ops.specs.Fonts.{WidthsByName, widths_of}
@@ -9,11 +9,20 @@ use Rattle.dvi_ops.specs.Instruction.{Definition, Do, Instruction, Xxx}
 use Rattle.dvi_ops.specs.Tokens.{Token}
 use Rattle.dvi_read.specs.ReadFonts.{HaveByteCodes, font_place, read_font_at, width_in}
 use Rattle.dvi_read.specs.declared.fonts.ReadFonts.{ReadFonts}
-use Rattle.scaled_core.specs.Mark.{Mark, Glyph, Special}
+use Rattle.scaled_core.specs.Mark.{Mark, Glyph, Rule, Special}
 
 -- The marks of all pages, in order.
 abbrev pub marks_of : List MarkedPage → List Mark
 marks_of pages = flat_map (λ page. page.marks) pages
+
+-- Whether a mark is a rule.
+abbrev pub is_rule : Mark → Bool
+is_rule (Rule h v height width) = true
+is_rule mark = false
+
+-- A page with its rules alone, in order.
+abbrev pub rules_alone : MarkedPage → MarkedPage
+rules_alone page = record { counts = page.counts; marks = filter is_rule page.marks }
 
 -- The text of a special, as a list of one or none.
 abbrev pub text_in : Mark → List (List ℕ)

@@ -1,7 +1,7 @@
 //! The pages of a checked file, seen one mark at a time (DVItype, 15).
 
 ghost use Rattle.std.specs.Prelude.{◌≡◌, ◌≢◌, ◌≤◌, ◌<◌, ◌-◌, ◌^◌, ◌++◌, ◌∷◌, [], false, length, true, IfOk, IfSome, IsSome, List, None, Some, ℕ, ℤ};
-ghost use Rattle.dvi_ops.specs.Body.{Acts, instruction_acts, bounded_acts};
+ghost use Rattle.dvi_ops.specs.Body.{Acts, instruction_acts, bounded_acts, start};
 ghost use Rattle.dvi_ops.specs.File.{MarkedPage};
 ghost use Rattle.dvi_ops.specs.Fonts.{selection_of};
 ghost use Rattle.dvi_ops.specs.Instruction.{Bop, Do, Eop, SetChar};
@@ -9,7 +9,7 @@ ghost use Rattle.dvi_ops.specs.View.{view};
 ghost use Rattle.scaled_core.specs.Mark.{Mark as MarkSeen};
 ghost use Rattle.dvi_scan.specs.Execution.{HasPageSpace};
 ghost use Rattle.dvi_scan.specs.Pass.{Between, PassStateView, execute};
-ghost use Rattle.dvi_scan.specs.View.{mark_of};
+ghost use Rattle.dvi_scan.specs.View.{dvi_state, mark_of};
 ghost use Rattle.dvi_scan.specs.Private.View.{marks_in};
 ghost use Rattle.dvi_read.specs.PageMarks.{read_width, text_place};
 ghost use Rattle.dvi_read.specs.ReadFonts.{HasCurrent, HaveByteCodes, with_current};
@@ -58,6 +58,8 @@ pub(crate) fn page_space<'a>(alloc: Global, most: usize) -> Result<OpenPage<'a>,
     ensures none { IfOk result (λ page. page.marks.items ≡ []) }
     ensures space { IfOk result (HasPageSpace most) }
     ensures font { IfOk result (λ page. page.state.font ≡ None) }
+    ensures places { IfOk result (λ page. page.stack.items ≡ []) }
+    ensures state { IfOk result (λ page. dvi_state page.state ≡ start) }
 {
     let marks = Vec::with_capacity(alloc, 1)?;
     let stack = SmallVec::with_capacity(alloc, most)?;
@@ -95,7 +97,7 @@ fn begin(op: &Op<'_>, page: &mut OpenPage<'_>) -> bool
 }
 
 /// Selects the font of an instruction, if it selects one. The font was read before.
-pub(crate) fn choose_font(op: &Op<'_>, fonts: &ReadFonts, current: &mut usize)
+fn choose_font(op: &Op<'_>, fonts: &ReadFonts, current: &mut usize)
     requires { FontsAreRead fonts.now (selection_of (view op.now)) }
     ensures { Chooses (view op.now) (with_current fonts.now current.old) (with_current fonts.now current.new) }
 {
@@ -120,6 +122,7 @@ fn character_set(op: &Op<'_>) -> Option<i32>
 }
 
 /// Sets a character of an open page, and returns its mark, which needs no space in the page.
+#[inline(always)]
 fn set_character<'a>(
     code: i32,
     fonts: &ReadFonts,
@@ -159,7 +162,8 @@ fn set_character<'a>(
 }
 
 /// Takes an instruction of an open page that does not end it, and returns the mark that it makes.
-fn draw<'a>(
+#[inline(always)]
+pub(crate) fn draw<'a>(
     most: usize,
     op: &Op<'a>,
     fonts: &ReadFonts,

@@ -1,7 +1,7 @@
 //! A DVI file that was checked as a whole (DVItype, 13 to 20).
 
 ghost use Rattle.std.specs.Prelude.{◌≡◌, ◌≢◌, ◌++◌, ◌<◌, [], length, slice_get, take, IfErr, IfOk, OnErr, OnOk, Some};
-ghost use Rattle.dvi_ops.specs.File.{AreUnits, Frame, IsFile};
+ghost use Rattle.dvi_ops.specs.File.{AreUnits, Frame, IsFile, MarkedPage};
 ghost use Rattle.dvi_ops.specs.Fonts.{definitions};
 ghost use Rattle.dvi_ops.specs.Tokens.{token_instructions};
 ghost use Rattle.dvi_ops.specs.View.{units as view_units};
@@ -9,7 +9,7 @@ ghost use Rattle.dvi_scan.specs.View.{marked_page};
 ghost use Rattle.dvi_read.specs.Listing.{listing as listing_of};
 ghost use Rattle.dvi_read.specs.Opened.{HasUnitsOf, IsExact, IsNoFile};
 ghost use Rattle.dvi_read.specs.Opening.{IsDviFault};
-ghost use Rattle.dvi_read.specs.PageMarks.{HasGlyphWidths, HasSpaceFor, marks_of, text_places};
+ghost use Rattle.dvi_read.specs.PageMarks.{HasGlyphWidths, HasSpaceFor, marks_of, rules_alone, text_places};
 ghost use Rattle.dvi_read.specs.Seen.{seen_of};
 ghost use Rattle.dvi_read.specs.ItemsLeft.{AreLinesLeft, HasAllLines, HasCheckedPages, HasCheckedTexts, AreItemsLeft};
 ghost use Rattle.dvi_read.specs.declared.fault.DviFault.TheVariants.{OutOfMemory};
@@ -25,6 +25,7 @@ use crate::fault::DviFault;
 use crate::fonts::ReadFonts;
 use crate::listings::lines::Lines;
 use crate::listings::part::ListingPart;
+use crate::seen_items::one_page::MarkChoice;
 use crate::seen_items::{SeenItems, page_space};
 use dvi_ops::Units;
 use dvi_scan::Page;
@@ -124,12 +125,21 @@ impl<'a> Dvi<'a> {
     }
 
     /// The page with this index, from 0 and below the number of pages, read from its place. It takes memory for the marks of this page and for the
-    /// places that its pushes save.
+    /// places that pushes save.
     pub fn page(&self, index: usize) -> Result<Page<'a>, AllocError>
         requires { index < length self.now.pages }
         ensures { IfOk result (λ page. slice_get self.now.pages index ≡ Some (marked_page page)) }
     {
-        self.file.page(self.alloc, index)
+        self.file.page(self.alloc, index, MarkChoice::All)
+    }
+
+    /// The same page with only its rules. It takes memory for them and for the places that pushes save.
+    pub fn page_rules(&self, index: usize) -> Result<Page<'a>, AllocError>
+        requires { index < length self.now.pages }
+        ensures { IfOk result (λ page. (shown : MarkedPage) × (slice_get self.now.pages index ≡ Some shown)
+            × (marked_page page ≡ rules_alone shown)) }
+    {
+        self.file.page(self.alloc, index, MarkChoice::Rules)
     }
 
     /// The units of the file: num, den and mag, which are positive. It takes no memory.

@@ -1,27 +1,18 @@
 //! One page of a checked file, read from its place.
 
-ghost use Rattle.std.specs.Prelude.{◌≡◌, ◌≢◌, ◌<◌, slice_get, vec_len, IfOk, List, OnOk, Some, ℕ, ℤ};
-ghost use Rattle.dvi_ops.specs.Body.{bounded_acts, instruction_acts};
+ghost use Rattle.std.specs.Prelude.{◌≡◌, ◌++◌, [], ◌<◌, filter, length, map, vec_len, IfOk, List, OnOk};
 ghost use Rattle.dvi_ops.specs.File.{MarkedPage};
-ghost use Rattle.dvi_ops.specs.Fonts.{selection_of};
-ghost use Rattle.dvi_ops.specs.Instruction.{Eop};
-ghost use Rattle.dvi_ops.specs.View.{view};
-ghost use Rattle.dvi_scan.specs.Execution.{inside_of};
-ghost use Rattle.dvi_scan.specs.Pass.{PassStateView, execute};
-ghost use Rattle.dvi_scan.specs.View.{marked_page};
-ghost use Rattle.dvi_read.specs.PageMarks.{read_width};
-ghost use Rattle.dvi_read.specs.ReadFonts.{HasCurrent, HaveByteCodes, with_current};
-ghost use Rattle.dvi_read.specs.Steps.{FontsAreRead};
-ghost use Rattle.dvi_read.specs.Private.OnePage.{EndsPage, IsOpenAt, IsPageStart};
+ghost use Rattle.dvi_scan.specs.View.{mark_of, marked_page};
+ghost use Rattle.dvi_scan.specs.Private.View.{marks_in};
+ghost use Rattle.dvi_read.specs.ItemsLeft.{IsReady};
+ghost use Rattle.dvi_read.specs.Private.OnePage.{IsOpenAt, IsPageStart, ShowsKept, is_kept};
 ghost use Rattle.dvi_read.specs.Private.ShownPages.{ShowsPages};
 
 use crate::check::checked_file::CheckedFile;
-use crate::fonts::{ReadFonts, width_asked};
-use crate::seen_items::choose_font;
+use crate::seen_items::{draw, page_space};
 use dvi_ops::Op;
-use dvi_scan::{DviState, OpenPage, Page, PassFault, Position, read_at};
+use dvi_scan::{Mark, OpenPage, Page, read_at};
 use scaled_core::COUNTS;
-use smallvec::SmallVec;
 use std::alloc::{AllocError, Global};
 
 /// The beginning of a page: its counts, and the place after its bop.
@@ -31,33 +22,40 @@ struct PageStart {
     at: usize,
 }
 
-/// Takes an instruction of an open page that does not end it. It takes memory for a mark or a saved place alone.
-fn draw_on<'a>(
-    most: usize,
-    op: &Op<'a>,
-    fonts: &ReadFonts,
-    current: &mut usize,
-    page: &mut OpenPage<'a>,
-) -> Result<(), AllocError>
-    requires current { (f : ℤ) → page.old.state.font ≡ Some f → HasCurrent f (with_current fonts.now current.old) }
-    requires codes { HaveByteCodes fonts.now }
-    requires read { FontsAreRead fonts.now (selection_of (view op.now)) }
-    requires stays { view op.now ≢ Eop }
-    requires goes_on { (pages : List MarkedPage) × (after : PassStateView)
-        × (execute (bounded_acts (instruction_acts (read_width fonts.now))) most (view op.now) (inside_of pages page.old) ≡ Some after) }
-    ensures draws { OnOk result ((pages : List MarkedPage) (after : PassStateView)
-        → execute (bounded_acts (instruction_acts (read_width fonts.now))) most (view op.now) (inside_of pages page.old) ≡ Some after
-        → after ≡ inside_of pages page.new) }
-    ensures current { OnOk result ((f : ℤ) → page.new.state.font ≡ Some f → HasCurrent f (with_current fonts.now current.new)) }
-{
-    let width = width_asked(fonts, *current, op);
-    match page.take(most, op, width) {
-        Ok(()) => {
-            choose_font(op, fonts, current);
-            Ok(())
+/// Which marks of a page are kept.
+#[derive(Clone, Copy, Debug)]
+pub(crate) enum MarkChoice {
+    All,
+    Rules,
+}
+
+impl MarkChoice {
+    /// Whether a mark is kept.
+    fn keeps(self, mark: &Mark<'_>) -> bool
+        ensures { result ≡ is_kept self (mark_of mark.now) }
+    {
+        match self {
+            MarkChoice::All => true,
+            MarkChoice::Rules => match *mark {
+                Mark::Rule { .. } => true,
+                _ => false,
+            },
         }
-        Err(PassFault::OutOfMemory) => Err(AllocError),
-        Err(PassFault::Broken(_)) => unreachable!(),
+    }
+
+    /// Appends the mark that an instruction made, if it made one that is kept. It takes memory for it.
+    #[inline(always)]
+    fn push<'a>(self, made: Option<Mark<'a>>, marks: &mut Vec<Mark<'a>>) -> Result<(), AllocError>
+        ensures { OnOk result (map mark_of marks.new.items ≡ map mark_of marks.old.items ++ filter (is_kept self) (marks_in made.entry)) }
+    {
+        let Some(mark) = made else {
+            return Ok(());
+        };
+        if !self.keeps(&mark) {
+            return Ok(());
+        }
+        marks.push(mark)?;
+        Ok(())
     }
 }
 
@@ -78,13 +76,21 @@ impl<'a> CheckedFile<'a> {
         PageStart { counts, at }
     }
 
-    /// Takes the instructions of an open page up to its eop. It takes memory for its marks and for the places that pushes save.
-    fn draw_page(&self, from: usize, page: &mut OpenPage<'a>) -> Result<(), AllocError>
-        requires current { (f : ℤ) → page.old.state.font ≡ Some f → HasCurrent f self.now.fonts }
-        requires remaining { (before : List MarkedPage) × (pages : List MarkedPage) × IsOpenAt self.now from before page.old pages }
-        ensures { OnOk result ((before : List MarkedPage) (pages : List MarkedPage)
-            → IsOpenAt self.now from before page.old pages → EndsPage before page.new pages) }
+    /// Takes the instructions of an open page up to its eop, and returns the marks that are kept. It takes memory for them alone.
+    fn page_marks(
+        &self,
+        alloc: Global,
+        kept: MarkChoice,
+        from: usize,
+        page: &mut OpenPage<'a>,
+    ) -> Result<Vec<Mark<'a>>, AllocError>
+        requires ready { IsReady self.now.most self.now.fonts page.old }
+        requires remaining { (before : List MarkedPage) × (pages : List MarkedPage) × IsOpenAt self.now from before [] page.old pages }
+        ensures { IfOk result (λ marks. (before : List MarkedPage) (pages : List MarkedPage)
+            → IsOpenAt self.now from before [] page.old pages
+            → ShowsKept kept (record { counts = page.old.counts; marks = map mark_of marks.items }) (length before) pages) }
     {
+        let mut marks = Vec::new(alloc);
         let mut at = from;
         let mut current = self.fonts.current;
         while at < self.post {
@@ -92,39 +98,32 @@ impl<'a> CheckedFile<'a> {
                 unreachable!()
             };
             if let Op::Eop = op {
-                return Ok(());
+                return Ok(marks);
             }
-            draw_on(self.most, &op, &self.fonts, &mut current, page)?;
+            let made = draw(self.most, &op, &self.fonts, &mut current, page);
+            kept.push(made, &mut marks)?;
             at = next;
         }
         unreachable!()
     }
 
-    /// The page with an index, from 0 on. It takes memory for the marks of this page and for the places that its pushes save.
-    pub(crate) fn page(&self, alloc: Global, index: usize) -> Result<Page<'a>, AllocError>
+    /// The page with an index, from 0 on, with the marks that are kept. It takes memory for these marks and for the places that pushes save.
+    pub(crate) fn page(
+        &self,
+        alloc: Global,
+        index: usize,
+        kept: MarkChoice,
+    ) -> Result<Page<'a>, AllocError>
         requires shown { (pages : List MarkedPage) × ShowsPages self.now pages }
         requires below { index < vec_len self.now.places }
-        ensures { IfOk result (λ page. (pages : List MarkedPage) → ShowsPages self.now pages → slice_get pages index ≡ Some (marked_page page)) }
+        ensures { IfOk result (λ page. (pages : List MarkedPage) → ShowsPages self.now pages
+            → ShowsKept kept (marked_page page) index pages) }
     {
         let begin = self.page_start(index);
+        let mut page = page_space(alloc, self.most)?;
         let counts = begin.counts;
-        let marks = Vec::new(alloc);
-        let stack = SmallVec::new(alloc);
-        let mut page = OpenPage {
-            counts,
-            marks,
-            stack,
-            state: DviState {
-                place: Position::START,
-                font: None,
-            },
-        };
-        self.draw_page(begin.at, &mut page)?;
-        let page_counts = page.counts;
-        let OpenPage { marks, .. } = page;
-        Ok(Page {
-            counts: page_counts,
-            marks,
-        })
+        page.counts = counts;
+        let marks = self.page_marks(alloc, kept, begin.at, &mut page)?;
+        Ok(Page { counts, marks })
     }
 }
