@@ -27,6 +27,7 @@ pub(crate) struct RowPlace {
 
 impl RowPlace {
     /// The place at these distances to the right and down.
+    #[inline(always)]
     pub(crate) fn at_offset(&self, right: i128, down: i128) -> RowPlace
         ensures { (exact : ItemPlace) → IsPlace self.now exact → IsPlace result (moved_by exact right down) }
     {
@@ -51,6 +52,7 @@ impl RowPlace {
     }
 
     /// The same place, after this many bytes of text.
+    #[inline(always)]
     pub(crate) fn after_text(&self, text: u64) -> RowPlace
         ensures { (exact : ItemPlace) → IsPlace self.now exact → IsPlace result (record exact { text = text }) }
     {
@@ -65,6 +67,7 @@ impl RowPlace {
 
 /// A number of 128 bits as two words.
 #[tactic(auto, unfolding(crate::specs::Rows::wide_of))]
+#[inline(always)]
 pub(crate) fn wide_of(distance: i128) -> WideDimen
     ensures { (exact : ℤ) → distance ≡ int_wrap w128 exact → result ≡ wide_of exact }
 {

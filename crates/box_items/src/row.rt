@@ -67,6 +67,7 @@ pub enum ItemKind {
 
 impl ItemKind {
     /// The number of a kind in a row.
+    #[inline(always)]
     pub fn number(self) -> u32
         ensures { result ≡ kind_number self }
     {

@@ -18,6 +18,33 @@ use scaled_core::{Dimen, Ratio};
 /// A number of scaled points that is 0.
 const NOTHING: WideDimen = WideDimen { low: 0, high: 0 };
 
+/// A row with 0 for all.
+const EMPTY: BoxItem = BoxItem {
+    level: 0,
+    kind: 0,
+    right: NOTHING,
+    down: NOTHING,
+    set_width: NOTHING,
+    width: 0,
+    height: 0,
+    depth: 0,
+    shift: 0,
+    stretch: 0,
+    stretch_order: 0,
+    shrink: 0,
+    shrink_order: 0,
+    setting: 0,
+    setting_order: 0,
+    ratio_num: 0,
+    ratio_den: 0,
+    slot: 0,
+    code: 0,
+    penalty: 0,
+    running: 0,
+    text_start: 0,
+    text_size: 0,
+};
+
 /// The number of an order.
 fn order_number(order: Order) -> u32
     ensures { result ≡ order_number order }
@@ -30,89 +57,75 @@ fn order_number(order: Order) -> u32
     }
 }
 
-/// A row of this kind at a place, with 0 for all else.
-fn empty_row(kind: ItemKind, at: &RowPlace) -> BoxItem
-    ensures { (exact : ItemPlace) → IsPlace at.now exact → result ≡ empty_row kind exact }
+/// Makes a row one of this kind at a place, with 0 for all else. A row is large, so it is written where it stays.
+#[inline(always)]
+fn clear(row: &mut BoxItem, kind: ItemKind, at: &RowPlace)
+    ensures { (exact : ItemPlace) → IsPlace at.now exact → row.new ≡ empty_row kind exact }
 {
     let right = wide_of(at.h);
     let down = wide_of(at.v);
     let number = kind.number();
-    BoxItem {
+    *row = BoxItem {
         level: at.level,
         kind: number,
         right,
         down,
-        set_width: NOTHING,
-        width: 0,
-        height: 0,
-        depth: 0,
-        shift: 0,
-        stretch: 0,
-        stretch_order: 0,
-        shrink: 0,
-        shrink_order: 0,
-        setting: 0,
-        setting_order: 0,
-        ratio_num: 0,
-        ratio_den: 0,
-        slot: 0,
-        code: 0,
-        penalty: 0,
-        running: 0,
-        text_start: 0,
-        text_size: 0,
-    }
+        ..EMPTY
+    };
 }
 
-/// The row of a glyph.
-fn glyph_row(at: &RowPlace, glyph: &Glyph) -> BoxItem
-    ensures { (exact : ItemPlace) → IsPlace at.now exact → result ≡ glyph_row exact glyph.now }
+/// Writes the row of a glyph. Most rows are glyphs, so it is written at once.
+#[inline(always)]
+fn write_glyph(row: &mut BoxItem, at: &RowPlace, glyph: &Glyph)
+    ensures { (exact : ItemPlace) → IsPlace at.now exact → row.new ≡ glyph_row exact glyph.now }
 {
-    BoxItem {
+    let right = wide_of(at.h);
+    let down = wide_of(at.v);
+    let number = ItemKind::Glyph.number();
+    *row = BoxItem {
+        level: at.level,
+        kind: number,
+        right,
+        down,
         width: glyph.width.get(),
         height: glyph.height.get(),
         depth: glyph.depth.get(),
         slot: u32::from(glyph.slot),
         code: u32::from(glyph.code),
-        ..empty_row(ItemKind::Glyph, at)
-    }
+        ..EMPTY
+    };
 }
 
-/// The row of glue that has the distance `set_width` to the next item.
-fn glue_row(at: &RowPlace, set_width: i128, glue: &Glue) -> BoxItem
+/// Writes the row of glue that has the distance `set_width` to the next item.
+#[inline(always)]
+fn write_glue(row: &mut BoxItem, at: &RowPlace, set_width: i128, glue: &Glue)
     ensures { (exact : ItemPlace) (distance : ℤ) → IsPlace at.now exact → set_width ≡ int_wrap w128 distance
-        → result ≡ glue_row exact distance glue.now }
+        → row.new ≡ glue_row exact distance glue.now }
 {
+    clear(row, ItemKind::Glue, at);
     let set_width = wide_of(set_width);
-    BoxItem {
-        set_width,
-        width: glue.width.get(),
-        stretch: glue.stretch.get(),
-        stretch_order: order_number(glue.stretch_order),
-        shrink: glue.shrink.get(),
-        shrink_order: order_number(glue.shrink_order),
-        ..empty_row(ItemKind::Glue, at)
-    }
+    row.set_width = set_width;
+    row.width = glue.width.get();
+    row.stretch = glue.stretch.get();
+    row.stretch_order = order_number(glue.stretch_order);
+    row.shrink = glue.shrink.get();
+    row.shrink_order = order_number(glue.shrink_order);
 }
 
-/// The row of a kern of either kind.
-fn kern_row(kind: ItemKind, at: &RowPlace, width: Dimen) -> BoxItem
-    ensures { (exact : ItemPlace) → IsPlace at.now exact → result ≡ kern_row kind exact width }
+/// Writes the row of a kern of either kind.
+fn write_kern(row: &mut BoxItem, kind: ItemKind, at: &RowPlace, width: Dimen)
+    ensures { (exact : ItemPlace) → IsPlace at.now exact → row.new ≡ kern_row kind exact width }
 {
-    BoxItem {
-        width: width.get(),
-        ..empty_row(kind, at)
-    }
+    clear(row, kind, at);
+    row.width = width.get();
 }
 
-/// The row of a penalty.
-fn penalty_row(at: &RowPlace, number: i32) -> BoxItem
-    ensures { (exact : ItemPlace) → IsPlace at.now exact → result ≡ penalty_row exact number }
+/// Writes the row of a penalty.
+fn write_penalty(row: &mut BoxItem, at: &RowPlace, number: i32)
+    ensures { (exact : ItemPlace) → IsPlace at.now exact → row.new ≡ penalty_row exact number }
 {
-    BoxItem {
-        penalty: number,
-        ..empty_row(ItemKind::Penalty, at)
-    }
+    clear(row, ItemKind::Penalty, at);
+    row.penalty = number;
 }
 
 /// A size of a rule in a box.
@@ -176,23 +189,20 @@ fn rule_below(box_node: &BoxNode, rule: &Rule) -> i64
     }
 }
 
-/// The row of a rule in the list of a box.
-fn rule_row(box_node: &BoxNode, at: &RowPlace, rule: &Rule) -> BoxItem
-    ensures { (exact : ItemPlace) → IsPlace at.now exact → result ≡ rule_row box_node.now exact rule.now }
+/// Writes the row of a rule in the list of a box.
+fn write_rule(row: &mut BoxItem, box_node: &BoxNode, at: &RowPlace, rule: &Rule)
+    ensures { (exact : ItemPlace) → IsPlace at.now exact → row.new ≡ rule_row box_node.now exact rule.now }
 {
     let below = rule_below(box_node, rule);
     let corner = at.at_offset(0, i128::from(below));
-    let corner_row = empty_row(ItemKind::Rule, &corner);
+    clear(row, ItemKind::Rule, &corner);
     let width = if_running(1, rule.width);
     let height = if_running(2, rule.height);
     let depth = if_running(4, rule.depth);
-    BoxItem {
-        width: rule_width(box_node, rule).get(),
-        height: rule_height(box_node, rule).get(),
-        depth: rule_depth(box_node, rule).get(),
-        running: width + height + depth,
-        ..corner_row
-    }
+    row.width = rule_width(box_node, rule).get();
+    row.height = rule_height(box_node, rule).get();
+    row.depth = rule_depth(box_node, rule).get();
+    row.running = width + height + depth;
 }
 
 /// The kind of the row of a box.
@@ -205,15 +215,13 @@ fn box_kind(kind: Kind) -> ItemKind
     }
 }
 
-/// The row of a special.
-fn special_row(at: &RowPlace, text: &SpecialText) -> BoxItem
-    ensures { (exact : ItemPlace) → IsPlace at.now exact → result ≡ special_row exact text.now }
+/// Writes the row of a special.
+fn write_special(row: &mut BoxItem, at: &RowPlace, text: &SpecialText)
+    ensures { (exact : ItemPlace) → IsPlace at.now exact → row.new ≡ special_row exact text.now }
 {
-    BoxItem {
-        text_start: at.text,
-        text_size: text.as_bytes().len() as u64,
-        ..empty_row(ItemKind::Special, at)
-    }
+    clear(row, ItemKind::Special, at);
+    row.text_start = at.text;
+    row.text_size = text.as_bytes().len() as u64;
 }
 
 /// The setting of a box: its sign, its order, and its ratio `num / den`.
@@ -254,37 +262,43 @@ fn setting_numbers(setting: &Setting) -> SettingNumbers
     }
 }
 
-/// The row of a box with its reference point at a place.
-pub(crate) fn box_row(at: &RowPlace, shift: Dimen, box_node: &BoxNode) -> BoxItem
-    ensures { (exact : ItemPlace) → IsPlace at.now exact → result ≡ box_row exact shift (frame_of box_node.now) }
+/// Writes the row of a box with its reference point at a place.
+pub(crate) fn write_box(row: &mut BoxItem, at: &RowPlace, shift: Dimen, box_node: &BoxNode)
+    ensures { (exact : ItemPlace) → IsPlace at.now exact → row.new ≡ box_row exact shift (frame_of box_node.now) }
 {
+    clear(row, box_kind(box_node.kind), at);
+    row.width = box_node.width.get();
+    row.height = box_node.height.get();
+    row.depth = box_node.depth.get();
+    row.shift = shift.get();
     let setting = setting_numbers(&box_node.setting);
-    BoxItem {
-        width: box_node.width.get(),
-        height: box_node.height.get(),
-        depth: box_node.depth.get(),
-        shift: shift.get(),
-        setting: setting.sign,
-        setting_order: setting.order,
-        ratio_num: setting.num,
-        ratio_den: setting.den,
-        ..empty_row(box_kind(box_node.kind), at)
-    }
+    row.setting = setting.sign;
+    row.setting_order = setting.order;
+    row.ratio_num = setting.num;
+    row.ratio_den = setting.den;
 }
 
-/// The row of an item of a box at a place, which for a box is that of its reference point. The item has the distance `set_width` to the next one.
-pub(crate) fn row_of(box_node: &BoxNode, at: &RowPlace, set_width: i128, node: &Node) -> BoxItem
+/// Writes the row of an item of a box at a place, which for a box is that of its reference point. The item has the distance `set_width` to the next
+/// one.
+#[inline(always)]
+pub(crate) fn write_row(
+    row: &mut BoxItem,
+    box_node: &BoxNode,
+    at: &RowPlace,
+    set_width: i128,
+    node: &Node,
+)
     ensures { (exact : ItemPlace) (distance : ℤ) → IsPlace at.now exact → set_width ≡ int_wrap w128 distance
-        → result ≡ row_of_node box_node.now exact distance node.now }
+        → row.new ≡ row_of_node box_node.now exact distance node.now }
 {
     match node {
-        Node::Glyph(glyph) => glyph_row(at, glyph),
-        Node::FontKern(width) => kern_row(ItemKind::FontKern, at, *width),
-        Node::Kern(width) => kern_row(ItemKind::Kern, at, *width),
-        Node::Glue(glue) => glue_row(at, set_width, glue),
-        Node::Penalty(number) => penalty_row(at, *number),
-        Node::Rule(rule) => rule_row(box_node, at, rule),
-        Node::Special(text) => special_row(at, text),
-        Node::Box(shift, inner) => box_row(at, *shift, inner),
+        Node::Glyph(glyph) => write_glyph(row, at, glyph),
+        Node::FontKern(width) => write_kern(row, ItemKind::FontKern, at, *width),
+        Node::Kern(width) => write_kern(row, ItemKind::Kern, at, *width),
+        Node::Glue(glue) => write_glue(row, at, set_width, glue),
+        Node::Penalty(number) => write_penalty(row, at, *number),
+        Node::Rule(rule) => write_rule(row, box_node, at, rule),
+        Node::Special(text) => write_special(row, at, text),
+        Node::Box(shift, inner) => write_box(row, at, *shift, inner),
     }
 }

@@ -1,18 +1,21 @@
 //! The rows of a box, counted and written into the buffers of a caller.
 
-ghost use Rattle.std.specs.Prelude.{◌≡◌, ◌+◌, ◌-ℤ◌, ◌<◌, ◌≤◌, ◌++◌, ◌∷◌, ◌&&◌, [], ℕ, ℤ, List, drop, length, min, nat_le, pos, take, true, false};
+ghost use Rattle.std.specs.Prelude.{◌≡◌, ◌+◌, ◌-ℤ◌, ◌^◌, ◌<◌, ◌≤◌, ◌++◌, ◌∷◌, ◌&&◌, [], ℕ, ℤ, List};
+ghost use Rattle.std.specs.Prelude.{drop, length, min, nat_le, pos, take, true, false};
 ghost use Rattle.std.specs.Int.{int_wrap, w128};
+ghost use Rattle.scaled_core.specs.Dimensions.{Within};
 ghost use Rattle.node_core.specs.Items.{items_count, items_text};
 ghost use Rattle.node_core.specs.Nodes.{frame_of, max_nodes};
 ghost use Rattle.node_core.specs.declared.tree.Node.{Node};
 ghost use Rattle.pack_core.specs.Cursors.{one_more, place_at};
+ghost use Rattle.pack_core.specs.Items.{advance};
 ghost use Rattle.pack_core.specs.Places.{place};
 ghost use Rattle.box_items.specs.Rows.{ItemPlace, list_place, place_after, rows_after, rows_of_box, texts_in};
-ghost use Rattle.box_items.specs.Private.Written.{IsPlace, IsWalkPlace, place_of_node, put_from};
+ghost use Rattle.box_items.specs.Private.Written.{IsPlace, IsWalkPlace, place_of_node, put_from, row_of_node};
 
 use crate::place::RowPlace;
 use crate::row::BoxItem;
-use crate::row_building::{box_row, row_of};
+use crate::row_building::{write_box, write_row};
 use node_core::{BoxNode, Kind, Node, Setting};
 use pack_core::{Cursor, advance_of};
 use scaled_core::Dimen;
@@ -53,6 +56,7 @@ impl ListWalk {
     }
 
     /// Moves past an item. Only glue is rounded: after another item no quotient is taken.
+    #[inline(always)]
     fn pass(&mut self, box_node: &BoxNode, node: &Node)
         requires items_bounded { self.old.cursor.passed < max_nodes }
         requires place { IsWalkPlace box_node.now.setting self.old }
@@ -64,12 +68,13 @@ impl ListWalk {
             self.place = self.cursor.place(&box_node.setting);
             return;
         }
-        let distance = advance_of(box_node.kind, node);
+        let distance = distance_past(box_node.kind, node);
         self.cursor.move_on(distance);
         self.place = self.place.wrapping_add(i128::from(distance));
     }
 
     /// Moves past an item, and returns the distance to the next one.
+    #[inline(always)]
     fn go_past(&mut self, box_node: &BoxNode, node: &Node) -> i128
         requires items_bounded { self.old.cursor.passed < max_nodes }
         requires place { IsWalkPlace box_node.now.setting self.old }
@@ -83,7 +88,20 @@ impl ListWalk {
     }
 }
 
+/// The advance of an item. Most items are glyphs of horizontal lists.
+#[inline(always)]
+fn distance_past(kind: Kind, node: &Node) -> i64
+    ensures value { result ≡ advance kind node.now }
+    ensures value_bounded { Within (2 ^ 31) result }
+{
+    if let (Kind::Horizontal, Node::Glyph(glyph)) = (kind, node) {
+        return i64::from(glyph.width.get());
+    }
+    advance_of(kind, node)
+}
+
 /// The place of an item at a distance from the start of the list of a box.
+#[inline(always)]
 fn place_after(box_node: &BoxNode, begin: &RowPlace, distance: i128, text: usize) -> RowPlace
     ensures { (exact : ItemPlace) (before : List Node) → IsPlace begin.now exact
         → distance ≡ int_wrap w128 (place box_node.now.kind box_node.now.setting before)
@@ -96,6 +114,7 @@ fn place_after(box_node: &BoxNode, begin: &RowPlace, distance: i128, text: usize
 }
 
 /// The place of the row of an item: of a box its reference point.
+#[inline(always)]
 fn place_of_node(kind: Kind, at: &RowPlace, node: &Node) -> RowPlace
     ensures { (exact : ItemPlace) → IsPlace at.now exact → IsPlace result (place_of_node kind exact node.now) }
 {
@@ -119,14 +138,23 @@ fn list_place(box_node: &BoxNode, at: &RowPlace) -> RowPlace
     }
 }
 
-/// Writes a row.
-fn put_row(row: BoxItem, written: &mut Progress, items: &mut [BoxItem])
+/// Writes the row of an item at a place after those that are written.
+#[inline(always)]
+fn put_row(
+    box_node: &BoxNode,
+    at: &RowPlace,
+    set_width: i128,
+    node: &Node,
+    written: &mut Progress,
+    items: &mut [BoxItem],
+)
     requires { written.old.items < length items.old }
     ensures count { written.new.items ≡ written.old.items + 1 }
     ensures bytes { written.new.text ≡ written.old.text }
-    ensures items { items.new ≡ put_from items.old written.old.items (row ∷ []) }
+    ensures items { (exact : ItemPlace) (distance : ℤ) → IsPlace at.now exact → set_width ≡ int_wrap w128 distance
+        → items.new ≡ put_from items.old written.old.items (row_of_node box_node.now exact distance node.now ∷ []) }
 {
-    items[written.items] = row;
+    write_row(&mut items[written.items], box_node, at, set_width, node);
     written.items += 1;
 }
 
@@ -159,11 +187,13 @@ fn write_list(
 {
     let mut walk = ListWalk::new(&box_node.setting);
     let nodes = box_node.list.as_slice();
+    // A copy, which stays in registers while rows are written.
+    let start = *begin;
     for node in nodes {
-        let at = place_after(box_node, begin, walk.place, written.text);
+        let at = place_after(box_node, &start, walk.place, written.text);
         let at = place_of_node(box_node.kind, &at, node);
         let set_width = walk.go_past(box_node, node);
-        put_row(row_of(box_node, &at, set_width, node), written, items);
+        put_row(box_node, &at, set_width, node, written, items);
         match node {
             Node::Special(special) => put_text(special.as_bytes(), written, text),
             Node::Box(_, inner) => {
@@ -205,8 +235,8 @@ pub fn write_items(box_node: &BoxNode, items: &mut [BoxItem], text: &mut [u8]) -
         v: 0,
         text: 0,
     };
-    let mut written = Progress { items: 0, text: 0 };
-    put_row(box_row(&origin, Dimen::ZERO, box_node), &mut written, items);
+    write_box(&mut items[0], &origin, Dimen::ZERO, box_node);
+    let mut written = Progress { items: 1, text: 0 };
     write_list(
         box_node,
         &list_place(box_node, &origin),

@@ -1,4 +1,4 @@
-use Rattle.std.proofs.Common.{◌≡◌, ◌∙◌, ◌+◌, ◌<◌, ◌≤◌, [], ◌∷◌, ℕ, List, ap, arith, drop, length, refl, subst, sym, take}
+use Rattle.std.proofs.Common.{◌≡◌, ◌∙◌, ◌+◌, ◌<◌, ◌≤◌, [], ℕ, List, ap, arith, drop, length, refl, subst, sym, take}
 use Rattle.std.specs.Int.{int_wrap, w128}
 use Rattle.std.proofs.lemmas.List.{drop_all}
 use Rattle.node_core.specs.declared.tree.Node.{Node}
@@ -10,7 +10,6 @@ use Rattle.node_core.proofs.NodeLemmas.{items_of-nodes_of}
 use Rattle.page_core.proofs.Places.{few_passed, inner_depth, reached-none, reached-place}
 use Rattle.pack_core.specs.Cursors.{WalkSums, one_more}
 use Rattle.pack_core.proofs.Walks.{reached-more}
-use Rattle.box_items.specs.declared.row.BoxItem.{BoxItem}
 use Rattle.box_items.specs.declared.writing.Progress.{Progress}
 use Rattle.box_items.specs.Rows.{ItemPlace, list_place, place_after, reference_point, rows_after, set_width_of, texts_in}
 use Rattle.box_items.specs.Private.Written.{IsPlace, count_inside, place_of_node, put_from, row_of_node, rows_inside, text_inside, texts_inside}
@@ -210,12 +209,11 @@ loop-node-preserved t c =
           let width = passed_on c.go_past-set_width.result _
           (c.go_past-set_width.ensures.distance
           ∙ ap (int_wrap w128) (far b before x walk.cursor c.go_past-set_width.new.self.cursor c.loop-node.invariant.cursor c.go_past-set_width.ensures.cursor)) in
-          let row = c.row_of.ensures point (set_width_of b before x) (placed from is) width in
           ap (λ (j : ℕ). put_from c.match-node.items c.match-node.written.items (later j)) k
           ∙ (put_three c.loop-node.items first c.match-node.items c.loop-node.written.items n c.match-node.written.items
           (row_of_node b point (set_width_of b before x) x) (rows_inside point x) (later (c.loop-node.written.text + text_inside x))
           (rows_after b start before (items_of (drop i xs)))
-          (c.put_row.ensures.items ∙ ap (λ (r : BoxItem). put_from c.loop-node.items c.loop-node.written.items (r ∷ [])) row)
+          (c.put_row.ensures.items point (set_width_of b before x) (placed from is) width)
           c.put_row.ensures.count (step.1.1.0 from is) (counted ∙ ap (λ (j : ℕ). n + j) (sym (length-inside point x))) (rows_left xs i x within at_i b start)
           ∙ c.loop-node.invariant.items from is at);
       text = put_two c.loop-node.text c.match-node.text m c.match-node.written.text (texts_inside x) (texts_in (items_of (drop (i + 1) xs)))

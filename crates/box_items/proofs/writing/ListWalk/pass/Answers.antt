@@ -14,10 +14,10 @@ returns c =
     let setting = c.args.box_node.now.setting in
     let kind = c.args.box_node.now.kind in
     let from = c.args.self.now.cursor in
-    let distance = c.advance_of-distance.result in
+    let distance = c.distance_past-distance.result in
     let exact : to_z w64 (of_z w64 distance) ≡ distance = to_z-of_z w64 distance (search rules) in
     let moved : c.move_on.new.self ≡ moved_on from distance = c.move_on.ensures.value ∙ ap (moved_on from) exact in
-    let more = rigid_more kind setting from c.args.node.now distance (rigid c.args.node.now c.in_default.not-Glue) c.advance_of-distance.ensures.value in
+    let more = rigid_more kind setting from c.args.node.now distance (rigid c.args.node.now c.in_default.not-Glue) c.distance_past-distance.ensures.value in
     record {
       cursor = moved ∙ more;
       place = add_wrapped c.args.self.now.place c.from.result (place_at setting from) (search rules) c.requires.place

@@ -1,9 +1,9 @@
 use Rattle.std.proofs.Common.{refl}
-use Rattle.box_items.proofs.row_building.special_row.Goals as goal
+use Rattle.box_items.proofs.row_building.write_special.Goals as goal
 
 pub returns : goal.returns
 returns c exact is =
-    let row = c.empty_row.ensures exact is in
+    let row = c.clear.ensures exact is in
     let text = is.text in
     let bytes = c.as_bytes.ensures.bytes in
     rw (row, text, bytes) refl

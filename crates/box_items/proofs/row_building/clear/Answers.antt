@@ -1,6 +1,6 @@
 use Rattle.std.proofs.Common.{refl}
 use Rattle.box_items.proofs.Wrapped.{passed_on, wide_zero}
-use Rattle.box_items.proofs.row_building.empty_row.Goals as goal
+use Rattle.box_items.proofs.row_building.clear.Goals as goal
 
 pub returns : goal.returns
 returns c exact is =

@@ -1,0 +1,10 @@
+use Rattle.std.proofs.Common.{◌≡◌, ◌∙◌, refl, rules, to_z, of_z}
+use Rattle.std.specs.Int.{w32}
+use Rattle.std.proofs.lemmas.Int.{to_z-of_z}
+use Rattle.box_items.proofs.row_building.write_kern.Goals as goal
+
+pub returns : goal.returns
+returns c exact is =
+    let row = c.clear.ensures exact is in
+    let w : to_z w32 (of_z w32 c.get-row.result) ≡ c.args.width = to_z-of_z w32 c.get-row.result (search rules) ∙ c.get-row.ensures.value in
+    rw (row, w) refl
