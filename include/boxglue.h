@@ -1,27 +1,33 @@
-/* boxglue.h: the typesetter as a library for C.
+/**
+ * @file boxglue.h
+ * @brief The typesetter boxglue as a library for C.
+ *
+ * A script has commands that put text, rules and glue into boxes and paragraphs, and ship boxes as pages of a DVI file. boxglue_run and boxglue_run_replies run a whole
+ * script. The calls boxglue_job_.. run a script piece by piece, in a job that keeps fonts, boxes and pages. The other calls read DVI files and metric files (TFM), which
+ * have the sizes of a font's characters.
  *
  * The functions work on bytes in memory. They start no thread and take no lock, so several threads may call them at once.
- * Between two calls they keep nothing but what a struct boxglue_job holds, which goes to one call at a time.
- * docs/LIBRARY.md shows how to link a program, and has callers in C, Python and Rust.
+ * Between two calls the library keeps only what a struct boxglue_job holds. docs/LIBRARY.md shows how to link a program, and has callers in C, Python and Rust.
  *
- * A size is a number of bytes, a count one of structs, and a room how many bytes or structs a buffer takes.
+ * In the names of parameters, a *size* is a number of bytes, a *count* is a number of structs, and a *room* is the capacity of a buffer in bytes or structs.
  *
- * Rules for all calls; the library checks none of them:
+ * The caller must keep these rules. The library checks none of them.
  *
- * - The caller owns all memory that it passes. The library reads its inputs and writes its outputs during the call, and keeps no pointer to them after it.
- *   What it allocates during a call it frees before the call returns. The memory of a job alone stays allocated between calls.
- * - It allocates by malloc, realloc and free of the program. The three come from one allocator, and malloc and realloc align a block to each power of two up to 16
- *   that divides its size, as to 8 for 24 bytes. Those of a C library do, and what a program puts in their place, such as a pool or a heap that counts, has to.
- * - A pointer that has a size, a count or a room beside it may be null where that is 0, in C and C++ through this header. No other pointer is null: not those
- *   without one, as to the sizes of the outputs or to a job; not those within a struct boxglue_font, where any address of a byte serves for an empty file; and none
- *   in a call of the library's symbols from another language. Pointers to structs are aligned as C aligns them.
- * - No output overlaps another output or an input. Inputs may overlap each other. The struct boxglue_job of a call is an output.
- * - Each input and each output is below 2^63 bytes.
- * - The stack has room. Boxes 200 deep, the deepest there are, ran with 256 KiB left, and most calls need far less.
- * - No call comes from a signal handler, or from the child of a process with threads after fork.
+ * - **Memory.** The caller owns all memory that it passes. The library reads its inputs and writes its outputs only during the call, and keeps no pointer to them.
+ *   It frees what it allocates before it returns, except for the memory of a job, which stays allocated between calls.
+ * - **Allocator.** The library calls malloc, realloc and free of the program. The three must come from one allocator. malloc and realloc must align a block to each power
+ *   of two up to 16 that divides its size: a block of 24 bytes to 8. Each C library does so; if you replace its allocator, yours must do so too.
+ * - **Null pointers.** In C and C++ through this header, a pointer that has a size, a count or a room beside it may be null if that number is 0. No other pointer may be
+ *   null, such as a pointer to a job or to the sizes of outputs. No pointer within a struct boxglue_font may be null: for an empty file, pass the address of any byte.
+ *   A call of the library's symbols from another language must not pass null at all.
+ * - **Alignment.** Pointers to structs must be aligned as C aligns them.
+ * - **Overlap.** An output must not overlap another output or an input. Inputs may overlap each other. The struct boxglue_job of a call is an output.
+ * - **Size.** Each input and each output must be below 2^63 bytes.
+ * - **Stack.** The stack must have space left. Boxes 200 deep, the deepest that there are, ran with 256 KiB left, and most calls need far less.
+ * - **Signals and fork.** Do not call the library from a signal handler, or from the child of a process with threads after fork.
  *
- * Each function but boxglue_version, boxglue_proved and boxglue_job_free returns a status, one of enum boxglue_status. Its comment names the statuses that it can return.
- * Every input has a status: what a script, a DVI file or a font file holds may be any bytes.
+ * Each function except boxglue_version, boxglue_proved and boxglue_job_free returns one of enum boxglue_status, and its description names all that it can return.
+ * A script, a DVI file or a metric file may have any bytes: every input has a status.
  */
 #ifndef BOXGLUE_H
 #define BOXGLUE_H
@@ -33,257 +39,357 @@
 extern "C" {
 #endif
 
-/* What boxglue_version returns for the library that this header describes, 1.2.0: 10,000 times the first number, 100 times the second, and the third.
- * The second number rises where calls, statuses and structs are added. From 1.2.0 on, none of those that are there changes before the first number does, so a program
- * runs with each library that has its first number and is not older than its header. In 1.2.0 struct boxglue_dvi_font got two fields. */
+/**
+ * @brief What boxglue_version returns for the library that this header describes, 1.2.0.
+ *
+ * It is 10,000 times the first number, plus 100 times the second, plus the third. The second number rises when a version adds calls, statuses or structs.
+ * From 1.2.0 on, a version that changes existing ones raises the first number, so a program runs with each library that has the same first number and is not
+ * older than the header. In 1.2.0 struct boxglue_dvi_font got two fields.
+ */
 #define BOXGLUE_VERSION 10200
+/** @brief The first number of the version. */
 #define BOXGLUE_VERSION_MAJOR (BOXGLUE_VERSION / 10000)
+/** @brief The second number of the version. */
 #define BOXGLUE_VERSION_MINOR (BOXGLUE_VERSION / 100 % 100)
+/** @brief The third number of the version. */
 #define BOXGLUE_VERSION_PATCH (BOXGLUE_VERSION % 100)
+/** @brief The version as a text. */
 #define BOXGLUE_VERSION_STRING "1.2.0"
 
+/** @brief What a call returns. */
 enum boxglue_status {
-    /* All was accepted. The outputs are written. */
+    /** The library accepted everything. The outputs are written. */
     BOXGLUE_ACCEPTED = 0,
-    /* The script, one of its commands, the end of the job or the DVI file was refused. The text, or a reply, says why. The outputs are written. */
+    /** The library refused the script, one of its commands, the end of the job, or the file. The text, a reply or the fault says why. The outputs are written. */
     BOXGLUE_REFUSED = 1,
-    /* Memory was refused, and there is no result. Statuses 3, 6, 8 and 9 are tested before memory is taken, so none of their causes holds. The buffers are as they
-     * were. */
+    /** The system refused memory, and there is no result. The buffers are unchanged. The library takes memory only after its tests for BOXGLUE_BAD_FONT_NAME,
+     * BOXGLUE_OUT_OF_RANGE, BOXGLUE_NO_JOB and BOXGLUE_JOB_EXISTS have passed. */
     BOXGLUE_OUT_OF_MEMORY = 2,
-    /* The name of a font has not 1 to 255 bytes. This is tested first. The buffers are as they were. */
+    /** The name of a font does not have 1 to 255 bytes. The library tests this first. The buffers are unchanged. */
     BOXGLUE_BAD_FONT_NAME = 3,
-    /* A buffer is too small. The sizes say what is needed. The buffers are as they were. */
+    /** A buffer is too small. The sizes say what the call needs. The buffers are unchanged. */
     BOXGLUE_BUFFER_TOO_SMALL = 4,
-    /* The DVI file is good and has no page of this number. The buffers are as they were. */
+    /** The DVI file is good and does not have this page. The buffers are unchanged. */
     BOXGLUE_NO_SUCH_PAGE = 5,
-    /* A number is out of its range. The buffers are as they were. */
+    /** A number is out of its range. The buffers are unchanged. */
     BOXGLUE_OUT_OF_RANGE = 6,
-    /* The script was run, and a command of it, or the end of the job, was refused as OutOfMemory. The outputs are written. Where memory is refused for the bytes
-     * of the DVI file alone, the answer is Device (docs/COMMANDS.md, section 7), the job is over, and the status is 1. */
+    /** The script was run, and a command or the end of the job was refused as OutOfMemory. The outputs are written. If the system refuses memory only for the bytes of the
+     * DVI file, the answer is Device (docs/COMMANDS.md, section 7), the job is over, and the status is BOXGLUE_REFUSED. */
     BOXGLUE_REFUSED_MEMORY = 7,
-    /* The handle has no job. Nothing is written. */
+    /** The handle does not have a job. Nothing is written. */
     BOXGLUE_NO_JOB = 8,
-    /* The handle has a job already. It is as it was. */
+    /** The handle already has a job, which is unchanged. */
     BOXGLUE_JOB_EXISTS = 9,
-    /* The commands were run, or the job was finished, and memory was refused for the text of the answers. They are lost; what the commands did stays, and so do the
-     * answers of earlier calls that were not handed over yet. */
+    /** The commands were run, or the job was finished, and the system refused memory for the text of the answers. These answers are lost. What the commands did stays, and
+     * so do the answers of earlier calls that were not handed over yet. */
     BOXGLUE_ANSWERS_LOST = 10
 };
 
-/* A font that the caller hands in: the name by which scripts and DVI files mean it, 1 to 255 bytes, and the bytes of its metric file (TFM).
- * Where several have one name, the first one counts. Neither pointer is null, not even where its size is 0. */
+/**
+ * @brief A font that the caller passes.
+ *
+ * If several fonts have one name, the first one counts. Neither pointer may be null, even if its size is 0.
+ */
 struct boxglue_font {
+    /** The name by which scripts and DVI files select the font, 1 to 255 bytes. */
     const uint8_t *name;
+    /** The number of bytes of the name. */
     size_t name_size;
+    /** The bytes of its metric file (TFM). */
     const uint8_t *bytes;
+    /** The number of these bytes. */
     size_t bytes_size;
 };
 
-/* The sizes of the outputs of boxglue_run, in bytes. */
+/** @brief The sizes of the outputs of boxglue_run, in bytes. */
 struct boxglue_lengths {
+    /** The number of bytes of the answers. */
     size_t answers;
+    /** The number of bytes of the DVI file. */
     size_t dvi;
 };
 
-/* A font that a DVI file defines. */
+/** @brief A font that a DVI file defines. */
 struct boxglue_dvi_font {
-    /* The number by which pages select it, and which a listing shows. */
+    /** The number by which pages select it, and which a listing shows. */
     int32_t number;
-    /* The size at which it is used, in DVI units: 1 to 2^27 - 1. A DVI unit of boxglue's own files is a scaled point, 1/65536 of a point. */
+    /** The size at which the file uses it, in DVI units: 1 to 2^27 - 1. A DVI unit of boxglue's own files is a scaled point, 1/65536 of a point. */
     int32_t size;
-    /* Its design size in DVI units, and the check sum of its metric file, as the DVI file gives them. They are not compared with a metric file. */
+    /** The design size in DVI units, as the DVI file gives it. The library does not compare it with a metric file. */
     int32_t design_size;
+    /** The check sum of the metric file, as the DVI file gives it. */
     uint32_t check_sum;
-    /* Where its name begins in the text, and how many bytes the name has, 0 to 255. */
+    /** Where its name begins in the text. */
     size_t name_start;
+    /** How many bytes the name has, 0 to 255. */
     size_t name_size;
 };
 
-/* The sizes of the outputs of boxglue_fonts: the number of fonts, and the number of bytes of the text. */
+/** @brief The sizes of the outputs of boxglue_fonts. */
 struct boxglue_font_sizes {
+    /** The number of fonts. */
     size_t fonts;
+    /** The number of bytes of the text. */
     size_t text;
 };
 
-/* A page of a DVI file: its ten counts, and its marks, which stand one after the other among all marks. */
+/** @brief A page of a DVI file. */
 struct boxglue_page {
+    /** The ten counts of the page. */
     int32_t counts[10];
+    /** The index of its first mark among all marks. */
     size_t first_mark;
+    /** The number of its marks, which follow each other. */
     size_t marks;
 };
 
-enum boxglue_mark_kind { BOXGLUE_GLYPH = 1, BOXGLUE_RULE = 2, BOXGLUE_SPECIAL = 3 };
+/** @brief What a mark is. */
+enum boxglue_mark_kind {
+    /** A character of a font. */
+    BOXGLUE_GLYPH = 1,
+    /** A black bar. */
+    BOXGLUE_RULE = 2,
+    /** A text for the program that reads the file. */
+    BOXGLUE_SPECIAL = 3
+};
 
-/* A mark of a page, in DVI units. What its kind does not have is 0. */
+/** @brief A mark of a page: a glyph, a rule or a special, in DVI units. Fields that its kind does not have are 0. */
 struct boxglue_mark {
-    /* One of enum boxglue_mark_kind. */
+    /** One of enum boxglue_mark_kind. */
     uint32_t kind;
-    /* Of a glyph: the number of its font, as in struct boxglue_dvi_font, and its character. */
+    /** The number of a glyph's font, as in struct boxglue_dvi_font. */
     int32_t font;
+    /** A glyph's character. */
     int32_t code;
-    /* The place: h grows to the right and v downward. That of a rule is its lower left corner. */
+    /** The place to the right. The place of a rule is its lower left corner. */
     int32_t h;
+    /** The place downward. */
     int32_t v;
-    /* Of a rule: its height and its width, both above 0. Of a glyph: the width that the metric file of its font gives, and no height. */
+    /** A rule's height, above 0. */
     int32_t height;
+    /** A rule's width, above 0; or a glyph's width in the metric file of its font. */
     int32_t width;
-    /* Of a special: the size of its text in bytes, and where it begins in the DVI file that was passed. */
+    /** The size of a special's text in bytes. */
     uint32_t text_size;
+    /** Where a special's text begins in the DVI file that was passed. */
     uint64_t text_start;
 };
 
-/* The sizes of the outputs of boxglue_marks: the number of pages, of marks, and of bytes of the text. A DVI unit is num / den times 10^-7 metres,
- * enlarged by mag / 1000. */
+/** @brief The sizes of the outputs of boxglue_marks, and the units of the file. A DVI unit is num / den times 10^-7 metres, enlarged by mag / 1000. */
 struct boxglue_mark_sizes {
+    /** The number of pages. */
     size_t pages;
+    /** The number of marks. */
     size_t marks;
+    /** The number of bytes of the text. */
     size_t text;
+    /** The numerator of the unit. */
     int32_t num;
+    /** The denominator of the unit. */
     int32_t den;
+    /** The magnification. */
     int32_t mag;
 };
 
-/* Why a file is refused. What its refusal does not have is 0. */
+/** @brief Why a file is refused. Fields that the refusal does not have are 0. */
 struct boxglue_fault {
-    /* One of enum boxglue_refusal, or 0 where nothing was refused. */
+    /** One of enum boxglue_refusal, or 0 if nothing was refused. */
     uint32_t number;
-    /* One of enum boxglue_dvi_cause if the number is BOXGLUE_REFUSAL_BAD_DVI, and of enum boxglue_tfm_cause if it is BOXGLUE_REFUSAL_BAD_TFM. */
+    /** One of enum boxglue_dvi_cause if the number is BOXGLUE_REFUSAL_BAD_DVI, and of enum boxglue_tfm_cause if it is BOXGLUE_REFUSAL_BAD_TFM. */
     uint32_t cause;
-    /* The number by which the DVI file selects the font whose metric file is refused. */
+    /** The number by which the DVI file selects the font whose metric file is refused. */
     int32_t font;
-    /* Where the DVI file breaks a rule: the number of bytes before that place. */
+    /** Where the DVI file breaks a rule: the number of bytes before that place. */
     uint64_t place;
-    /* How many bytes the name of the missing font has. */
+    /** How many bytes the name of the missing font has. */
     size_t name_size;
 };
 
-/* A number of scaled points: 65,536 of them are a point. Where the metric file has a number that is too large, is_unfit is 1, and value is 0. */
+/** @brief A number of scaled points, of which 65,536 are a point. */
 struct boxglue_measure {
+    /** The number, or 0 if is_unfit is 1. */
     int32_t value;
+    /** 1 if the number in the metric file is too large, else 0. */
     uint32_t is_unfit;
 };
 
-/* A character of a font, in scaled points. What is not there has zeros. */
+/** @brief A character of a font, in scaled points. A character that is not there has zeros. */
 struct boxglue_glyph {
-    /* 1 if the font has the character, else 0. */
+    /** 1 if the font has the character, else 0. */
     uint32_t is_there;
+    /** The width. */
     int32_t width;
+    /** The height above the baseline. */
     int32_t height;
+    /** The depth below the baseline. */
     int32_t depth;
-    /* The italic correction. */
+    /** The italic correction. */
     struct boxglue_measure italic;
 };
 
-/* The characters of a font: the row with the number of each. */
+/** @brief The characters of a font: row N has character N. */
 struct boxglue_glyph_table {
+    /** The rows. */
     struct boxglue_glyph rows[256];
 };
 
-/* The numbers of a font beside its characters, in scaled points. A parameter that the metric file does not have is 0. */
+/** @brief The numbers of a font beside its characters, in scaled points. A parameter that the metric file does not have is 0. */
 struct boxglue_font_parameters {
-    /* The size at which the font was measured, and the design size in the metric file. */
+    /** The size at which the font was measured. */
     int32_t size;
+    /** The design size in the metric file. */
     int32_t design_size;
-    /* The check sum in the metric file: four bytes, the highest first. */
+    /** The check sum in the metric file: four bytes, the highest first. */
     uint32_t check_sum;
-    /* Parameter 1, as it stands in the file: a ratio in units of 1/2^20, by which characters lean. It does not depend on the size. */
+    /** Parameter 1 as in the file: a ratio in units of 1/2^20, by which characters lean. It does not depend on the size. */
     int32_t slant;
-    /* Parameters 2 to 4: the width of a space, and by how much it stretches and shrinks. */
+    /** Parameter 2: the width of a space. */
     int32_t space;
+    /** Parameter 3: how much a space stretches. */
     int32_t stretch;
+    /** Parameter 4: how much a space shrinks. */
     int32_t shrink;
-    /* Parameters 5 to 7: the height of an x, the width of an em, and the space that is added at the end of a sentence. */
+    /** Parameter 5: the height of an x. */
     struct boxglue_measure x_height;
+    /** Parameter 6: the width of an em. */
     struct boxglue_measure quad;
+    /** Parameter 7: the space that TeX adds at the end of a sentence. */
     struct boxglue_measure extra_space;
 };
 
-enum boxglue_step_kind { BOXGLUE_STEP_KERN = 1, BOXGLUE_STEP_LIGATURE = 2 };
+/** @brief What a step of a font is. */
+enum boxglue_step_kind {
+    /** Space between the two characters. */
+    BOXGLUE_STEP_KERN = 1,
+    /** One character that replaces both. */
+    BOXGLUE_STEP_LIGATURE = 2
+};
 
-/* What a font puts between two characters, or in their place. What its kind does not have is 0. */
+/** @brief What a font puts between two characters, or in their place. Fields that its kind does not have are 0. */
 struct boxglue_font_step {
-    /* The two characters, 0 to 255. */
+    /** The first character, 0 to 255. */
     uint32_t character;
+    /** The character after it, 0 to 255. */
     uint32_t following;
-    /* One of enum boxglue_step_kind. */
+    /** One of enum boxglue_step_kind. */
     uint32_t kind;
-    /* The width of the kern between them, in scaled points. */
+    /** The width of the kern between them, in scaled points. */
     int32_t kern;
-    /* The character that stands for both. */
+    /** The character that replaces both. */
     uint32_t ligature;
 };
 
-/* Runs a script with these fonts.
+/**
+ * @brief Run a script with these fonts.
  *
- * answers takes the answers to the commands, one line each (docs/FORMATS.md), or the one line of a script that is refused as a whole.
- * dvi takes the bytes of the DVI file, or none where no page was shipped. Where the line of the end is a refusal they are no whole file: the pages that were
- * shipped, without the end; or, after Device, a beginning of the file, since memory was refused for more of its bytes.
- * *lengths takes the sizes of both. The rest of each buffer is as it was.
+ * If a buffer is too small, the script was run, and a second call runs it again, so begin with buffers that usually suffice.
  *
- * Returns 0, 1, 2, 3, 4 or 7. At 4 *lengths says what both buffers need, and no byte of them is written: the script was run, and a second call runs
- * it again, so begin with buffers that usually suffice. At 2 and 3 *lengths is as it was. */
+ * @param script, script_size  the script
+ * @param fonts, font_count  the fonts that the script may load
+ * @param answers, answers_room  a buffer for the answers to the commands, one line each (docs/FORMATS.md), or for the one line of a script that is refused as a whole
+ * @param dvi, dvi_room  a buffer for the bytes of the DVI file. A script that ships no page has none. If the end was refused, the bytes are not a DVI file: they are
+ *        the pages without the end of the file, or after Device a beginning of the file
+ * @param lengths  the sizes of both outputs, or at BOXGLUE_BUFFER_TOO_SMALL what both buffers need. The rest of each buffer is unchanged
+ * @return BOXGLUE_ACCEPTED, BOXGLUE_REFUSED, BOXGLUE_OUT_OF_MEMORY, BOXGLUE_BAD_FONT_NAME, BOXGLUE_BUFFER_TOO_SMALL or BOXGLUE_REFUSED_MEMORY. At
+ *         BOXGLUE_OUT_OF_MEMORY and BOXGLUE_BAD_FONT_NAME *lengths is unchanged
+ */
 uint32_t boxglue_run(const uint8_t *script, size_t script_size,
                      const struct boxglue_font *fonts, size_t font_count,
                      uint8_t *answers, size_t answers_room,
                      uint8_t *dvi, size_t dvi_room,
                      struct boxglue_lengths *lengths);
 
-/* Lists the marks of all pages of a DVI file.
+/**
+ * @brief List the marks of all pages of a DVI file.
  *
- * text takes the listing (docs/FORMATS.md), or the line of the refusal, and *size the number of its bytes. The rest of the buffer is as it was.
- *
- * Returns 0, 1, 2, 3 or 4. At 4 *size says what the buffer needs. At 2 and 3 *size is as it was. */
+ * @param dvi, dvi_size  the DVI file
+ * @param fonts, font_count  the fonts that its pages may select
+ * @param text, text_room  a buffer for the listing (docs/FORMATS.md), or for the line of the refusal
+ * @param size  the number of bytes of the text, or at BOXGLUE_BUFFER_TOO_SMALL what the buffer needs. The rest of the buffer is unchanged
+ * @return BOXGLUE_ACCEPTED, BOXGLUE_REFUSED, BOXGLUE_OUT_OF_MEMORY, BOXGLUE_BAD_FONT_NAME or BOXGLUE_BUFFER_TOO_SMALL. At BOXGLUE_OUT_OF_MEMORY and
+ *         BOXGLUE_BAD_FONT_NAME *size is unchanged
+ */
 uint32_t boxglue_list(const uint8_t *dvi, size_t dvi_size,
                       const struct boxglue_font *fonts, size_t font_count,
                       uint8_t *text, size_t text_room,
                       size_t *size);
 
-/* Paints the rules of a page of a DVI file.
+/**
+ * @brief Paint the rules of a page of a DVI file as a plain PBM file.
  *
- * page is counted from 1. dpi is the number of pixels an inch, 1 to 10000. width and height are those of the bitmap in pixels, 1 to 10000.
- * text takes the bitmap as plain PBM (docs/FORMATS.md), or the line of the refusal, and *size the number of its bytes. The rest of the buffer is as it was.
+ * The library tests the names of the fonts first, then the numbers.
  *
- * Returns 0 to 6. The names are tested first, then the numbers. At 4 *size says what the buffer needs. At 2, 3, 5 and 6 *size is as it was. */
+ * @param dvi, dvi_size  the DVI file
+ * @param fonts, font_count  the fonts that its pages may select
+ * @param page  the page, counted from 1
+ * @param dpi  pixels an inch, 1 to 10000
+ * @param width  the width of the bitmap in pixels, 1 to 10000
+ * @param height  the height of the bitmap in pixels, 1 to 10000
+ * @param text, text_room  a buffer for the bitmap as plain PBM (docs/FORMATS.md), or for the line of the refusal
+ * @param size  the number of bytes of the text, or at BOXGLUE_BUFFER_TOO_SMALL what the buffer needs. The rest of the buffer is unchanged
+ * @return BOXGLUE_ACCEPTED, BOXGLUE_REFUSED, BOXGLUE_OUT_OF_MEMORY, BOXGLUE_BAD_FONT_NAME, BOXGLUE_BUFFER_TOO_SMALL, BOXGLUE_NO_SUCH_PAGE or BOXGLUE_OUT_OF_RANGE.
+ *         *size is written only at BOXGLUE_ACCEPTED, BOXGLUE_REFUSED and BOXGLUE_BUFFER_TOO_SMALL
+ */
 uint32_t boxglue_paint(const uint8_t *dvi, size_t dvi_size,
                        const struct boxglue_font *fonts, size_t font_count,
                        uint32_t page, uint32_t dpi, uint32_t width, uint32_t height,
                        uint8_t *text, size_t text_room,
                        size_t *size);
 
-/* Paints the rules of a page of a DVI file as boxglue_paint does, as bits.
+/**
+ * @brief Paint the rules of a page of a DVI file as bits.
  *
- * bits takes the rows of the bitmap from the top, or the line of the refusal, and *size the number of bytes. The rest of the buffer is as it was.
- * A byte has eight pixels of a row, the leftmost in the highest bit, 1 for black. A row has (width + 7) / 8 bytes; the bits after its last pixel are 0. After the line
- * "P4", a line with width and height, they are a raw PBM file.
+ * A byte has eight pixels of a row, the leftmost in the highest bit, and 1 is black. A row has (width + 7) / 8 bytes; the bits after its last pixel are 0.
+ * After the line "P4" and a line with width and height, the rows are a raw PBM file.
  *
- * Returns 0 to 6, as boxglue_paint. */
+ * @param dvi, dvi_size  the DVI file
+ * @param fonts, font_count  the fonts that its pages may select
+ * @param page  the page, counted from 1
+ * @param dpi  pixels an inch, 1 to 10000
+ * @param width  the width of the bitmap in pixels, 1 to 10000
+ * @param height  the height of the bitmap in pixels, 1 to 10000
+ * @param bits, bits_room  a buffer for the rows of the bitmap from the top, or for the line of the refusal
+ * @param size  the number of bytes, or at BOXGLUE_BUFFER_TOO_SMALL what the buffer needs. The rest of the buffer is unchanged
+ * @return BOXGLUE_ACCEPTED, BOXGLUE_REFUSED, BOXGLUE_OUT_OF_MEMORY, BOXGLUE_BAD_FONT_NAME, BOXGLUE_BUFFER_TOO_SMALL, BOXGLUE_NO_SUCH_PAGE or
+ *         BOXGLUE_OUT_OF_RANGE. *size is written only at BOXGLUE_ACCEPTED, BOXGLUE_REFUSED and BOXGLUE_BUFFER_TOO_SMALL
+ */
 uint32_t boxglue_paint_bits(const uint8_t *dvi, size_t dvi_size,
                             const struct boxglue_font *fonts, size_t font_count,
                             uint32_t page, uint32_t dpi, uint32_t width, uint32_t height,
                             uint8_t *bits, size_t bits_room,
                             size_t *size);
 
-/* Reads the fonts that a DVI file defines after its pages, where each font that a page selects is defined. It needs no metric files, so it says which
- * names the other calls need. It checks the beginning and the end of the file and the chain of its pages, and does not read the pages.
+/**
+ * @brief Read the fonts that a DVI file defines after its pages.
  *
- * fonts takes the fonts in the order of the file. A font that is defined twice comes twice.
- * text takes their names, one after the other, or the line of the refusal, and then there are no fonts.
- * *sizes takes the numbers of both. The rest of each buffer is as it was.
+ * Each font that a page selects is defined there, so these are the names that the other calls need. The call needs no metric files. It checks the beginning and the end
+ * of the file and the chain of its pages, and does not read the pages.
  *
- * Returns 0, 1, 2 or 4. At 4 *sizes says what both buffers need. At 2 *sizes is as it was. */
+ * @param dvi, dvi_size  the DVI file
+ * @param fonts, font_room  a buffer for the fonts in the order of the file. A font that is defined twice comes twice. A file that is refused has no fonts
+ * @param text, text_room  a buffer for their names, one after the other, or for the line of the refusal
+ * @param sizes  the numbers of fonts and of bytes, or at BOXGLUE_BUFFER_TOO_SMALL what both buffers need. The rest of each buffer is unchanged
+ * @return BOXGLUE_ACCEPTED, BOXGLUE_REFUSED, BOXGLUE_OUT_OF_MEMORY or BOXGLUE_BUFFER_TOO_SMALL. At BOXGLUE_OUT_OF_MEMORY *sizes is unchanged
+ */
 uint32_t boxglue_fonts(const uint8_t *dvi, size_t dvi_size,
                        struct boxglue_dvi_font *fonts, size_t font_room,
                        uint8_t *text, size_t text_room,
                        struct boxglue_font_sizes *sizes);
 
-/* Reads the marks of all pages of a DVI file.
+/**
+ * @brief Read the marks of all pages of a DVI file.
  *
- * pages takes the pages, and marks their marks, in the order of a listing.
- * text takes the line of a refusal. Then there are no pages and no marks, and the units are 0.
- * *sizes takes the numbers of all three and the units. The rest of each buffer is as it was.
- * Rooms of dvi_size / 46 pages, dvi_size marks and 64 bytes always suffice, so one call is enough.
+ * Buffers of dvi_size / 46 pages, dvi_size marks and 64 bytes always suffice, so one call is enough.
  *
- * Returns 0, 1, 2, 3 or 4. At 4 *sizes says what the buffers need. At 2 and 3 *sizes is as it was. */
+ * @param dvi, dvi_size  the DVI file
+ * @param fonts, font_count  the fonts that its pages may select
+ * @param pages, page_room  a buffer for the pages
+ * @param marks, mark_room  a buffer for their marks, in the order of a listing
+ * @param text, text_room  a buffer for the line of a refusal. A file that is refused has no pages and no marks, and its units are 0
+ * @param sizes  the numbers of all three and the units, or at BOXGLUE_BUFFER_TOO_SMALL what the buffers need. The rest of each buffer is unchanged
+ * @return BOXGLUE_ACCEPTED, BOXGLUE_REFUSED, BOXGLUE_OUT_OF_MEMORY, BOXGLUE_BAD_FONT_NAME or BOXGLUE_BUFFER_TOO_SMALL. At BOXGLUE_OUT_OF_MEMORY and
+ *         BOXGLUE_BAD_FONT_NAME *sizes is unchanged
+ */
 uint32_t boxglue_marks(const uint8_t *dvi, size_t dvi_size,
                        const struct boxglue_font *fonts, size_t font_count,
                        struct boxglue_page *pages, size_t page_room,
@@ -291,27 +397,37 @@ uint32_t boxglue_marks(const uint8_t *dvi, size_t dvi_size,
                        uint8_t *text, size_t text_room,
                        struct boxglue_mark_sizes *sizes);
 
-/* Checks a DVI file, as boxglue_list does, and gives the reason of a refusal in numbers.
+/**
+ * @brief Check a DVI file as boxglue_list does, and give the reason of a refusal in numbers.
  *
- * Writes the reason to *fault, or zeros if the file is accepted.
- * name takes the name of the font that is missing, if the refusal is BOXGLUE_REFUSAL_NO_FONT. The rest of the buffer is as it was. A name has at most 255 bytes.
- *
- * Returns 0, 1, 2, 3 or 4. At 2 the fault is BOXGLUE_REFUSAL_OUT_OF_MEMORY. At 4 fault->name_size says what the buffer needs. At 3 *fault is as it was. */
+ * @param dvi, dvi_size  the DVI file
+ * @param fonts, font_count  the fonts that its pages may select
+ * @param fault  the reason, or zeros if the file is accepted. At BOXGLUE_BUFFER_TOO_SMALL fault->name_size says what the buffer needs
+ * @param name, name_room  a buffer for the name of the missing font, at most 255 bytes, if the reason is BOXGLUE_REFUSAL_NO_FONT. The rest of the buffer is unchanged
+ * @return BOXGLUE_ACCEPTED, BOXGLUE_REFUSED, BOXGLUE_OUT_OF_MEMORY, BOXGLUE_BAD_FONT_NAME or BOXGLUE_BUFFER_TOO_SMALL.
+ *         At BOXGLUE_OUT_OF_MEMORY the fault is BOXGLUE_REFUSAL_OUT_OF_MEMORY. At BOXGLUE_BAD_FONT_NAME *fault is unchanged
+ */
 uint32_t boxglue_check(const uint8_t *dvi, size_t dvi_size,
                        const struct boxglue_font *fonts, size_t font_count,
                        struct boxglue_fault *fault,
                        uint8_t *name, size_t name_room);
 
-/* Reads the metrics of a font, for a program that sets text itself: all sizes are those with which a job sets it.
+/**
+ * @brief Read the metrics of a font, for a program that sets text itself.
  *
- * tfm is a metric file, and size a size in scaled points, 1 to 2^27 - 1, or 0 for its design size.
- * *glyphs takes the characters 0 to 255, and *parameters the other numbers.
- * steps takes a step for each two characters between which the font puts a kern, or for which it has a ligature, in the order of the first one and then of the following
- * one; *count takes their number. The rest of the buffer is as it was. 65,536 steps always suffice, and most fonts have below 1,000.
- * Writes the reason of a refusal to *fault, BOXGLUE_REFUSAL_BAD_TFM or BOXGLUE_REFUSAL_DIMENSION_TOO_LARGE, or zeros if the file is accepted.
+ * All sizes are those that a job uses when it sets text in this font.
  *
- * Returns 0, 1, 2, 4 or 6. The size is tested first: 6 if it is none of these. At 1 only *fault is written, and at 4 only *count, which says what the buffer needs. At 2 and 6
- * nothing is written. */
+ * @param tfm, tfm_size  the metric file
+ * @param size  a size in scaled points, 1 to 2^27 - 1, or 0 for the design size. The library tests it first
+ * @param glyphs  the characters 0 to 255
+ * @param parameters  the other numbers
+ * @param steps, step_room  a buffer with a step for each two characters for which the font has a kern or a ligature, in the order of the first character and then of the
+ *        second. 65,536 steps always suffice; most fonts have fewer than 1,000. The rest of the buffer is unchanged
+ * @param count  the number of steps, or at BOXGLUE_BUFFER_TOO_SMALL what the buffer needs
+ * @param fault  the reason of a refusal, BOXGLUE_REFUSAL_BAD_TFM or BOXGLUE_REFUSAL_DIMENSION_TOO_LARGE, or zeros if the file is accepted
+ * @return BOXGLUE_ACCEPTED, BOXGLUE_REFUSED, BOXGLUE_OUT_OF_MEMORY, BOXGLUE_BUFFER_TOO_SMALL or BOXGLUE_OUT_OF_RANGE.
+ *         At BOXGLUE_REFUSED only *fault is written, and at BOXGLUE_BUFFER_TOO_SMALL only *count. At BOXGLUE_OUT_OF_MEMORY and BOXGLUE_OUT_OF_RANGE nothing is written
+ */
 uint32_t boxglue_metrics(const uint8_t *tfm, size_t tfm_size,
                          int32_t size,
                          struct boxglue_glyph_table *glyphs,
@@ -320,103 +436,141 @@ uint32_t boxglue_metrics(const uint8_t *tfm, size_t tfm_size,
                          size_t *count,
                          struct boxglue_fault *fault);
 
-/* Returns the version of the library, as BOXGLUE_VERSION counts it. A program compares the two. */
+/**
+ * @brief Return the version of the library, as BOXGLUE_VERSION counts it, so that a program can compare the two.
+ *
+ * @return the version
+ */
 uint32_t boxglue_version(void);
 
-/* Returns 1 if the library is proved, and 0 if it was built without proofs: then a fault of its own ends the program by a trap. */
+/**
+ * @brief Say whether the library is proved.
+ *
+ * @return 1 if the library is proved, and 0 if it was built without proofs: then a fault of its own ends the program by a trap
+ */
 uint32_t boxglue_proved(void);
 
-/* In a library that was built without proofs this is a text, "UNPROVED, with run-time checks". Else its address is null. The linker may
- * fix that address when it links the program, so ask boxglue_proved, which the library answers that runs. */
+/**
+ * @brief A text in a library that was built without proofs: "UNPROVED, with run-time checks". In a proved library its address is null.
+ *
+ * The linker may fix that address when it links the program, so ask boxglue_proved, which the library that runs answers.
+ */
 #if defined(__GNUC__) || defined(__clang__)
 extern const char boxglue_unproved[] __attribute__((weak));
 #endif
 
-/* A handle of a job that is kept between calls: struct boxglue_job job = {0};
+/**
+ * @brief A handle of a job that is kept between calls: struct boxglue_job job = {0};
  *
- * The library alone reads and writes `at`, which is null where there is no job. Memory of the job stays allocated from boxglue_job_new to boxglue_job_free.
- * A handle goes to one call at a time, and is never copied. It may move from one thread to another between two calls, where a lock, the start or the join of a
- * thread, or an atomic operation in the order memory_order_seq_cst puts the first call before the second. So any thread may free the job. */
+ * Memory of the job stays allocated from boxglue_job_new to boxglue_job_free. Give a handle to one call at a time, and do not copy it. It may move from one thread to
+ * another between two calls if a lock, the start or the join of a thread, or an atomic operation in the order memory_order_seq_cst puts the first call before the second.
+ * Any thread may therefore free the job.
+ */
 struct boxglue_job {
+    /** Only the library may read and write this. It is null if there is no job. */
     void *at;
 };
 
-/* Makes a job with these fonts, for a handle that has none. The job copies the fonts: names and bytes are not needed after the call.
+/**
+ * @brief Make a job with these fonts, for a handle that has none.
  *
- * Returns 0, 2, 3 or 9. Status 9 is tested first here. At 2, 3 and 9 the handle is as it was. At 0 end the job once, by boxglue_job_free. */
+ * The job copies the fonts, so the caller may free names and bytes after the call. Free the job by boxglue_job_free.
+ *
+ * @param job  the handle
+ * @param fonts, font_count  the fonts that scripts may load
+ * @return BOXGLUE_ACCEPTED, BOXGLUE_OUT_OF_MEMORY, BOXGLUE_BAD_FONT_NAME or BOXGLUE_JOB_EXISTS, which is tested first. At BOXGLUE_OUT_OF_MEMORY,
+ *         BOXGLUE_BAD_FONT_NAME and BOXGLUE_JOB_EXISTS the handle is unchanged
+ */
 uint32_t boxglue_job_new(struct boxglue_job *job,
                          const struct boxglue_font *fonts, size_t font_count);
 
-/* Runs a piece of a script: whole lines, the last one with its line feed or without. Pieces one after the other do what one script of them does,
- * and their lines are numbered as its lines.
+/**
+ * @brief Run a piece of a script, and keep the answers for boxglue_job_answers.
  *
- * A piece is read whole before its first command is run. One with a bad line is refused: nothing of it is run, its lines do not count, and the answer is
- * one line, as "refused 2 BadScript 7 Word". The answers are kept for boxglue_job_answers. After the end of the job each command is answered JobOver, and the job
- * stays as it is.
+ * A piece has whole lines; the last one may lack its line feed. Several pieces do what one script of them does, and their lines are numbered as its lines.
+ * The library reads a piece whole before it runs the first command. If a line is bad, it refuses the piece: it runs nothing of it, does not count its lines, and answers
+ * with one line such as "refused 2 BadScript 7 Word". After the end of the job each command is answered JobOver, and the job does not change.
  *
- * Returns 0, 1, 2, 7, 8 or 10. At 2 nothing was run, there is no answer, and the job is as it was. At 10 the commands were run, their lines count, and their
- * answers are lost. */
+ * @param job  the handle
+ * @param script, script_size  the piece
+ * @return BOXGLUE_ACCEPTED, BOXGLUE_REFUSED, BOXGLUE_OUT_OF_MEMORY, BOXGLUE_REFUSED_MEMORY, BOXGLUE_NO_JOB or BOXGLUE_ANSWERS_LOST.
+ *         At BOXGLUE_OUT_OF_MEMORY nothing was run, there is no answer, and the job is unchanged. At BOXGLUE_ANSWERS_LOST the commands were run, their lines count,
+ *         and their answers are lost
+ */
 uint32_t boxglue_job_commands(struct boxglue_job *job,
                               const uint8_t *script, size_t script_size);
 
-/* Hands over the answers that were not handed over yet, those of several pieces one after the other. The job then forgets them.
+/**
+ * @brief Hand over the answers of all pieces since the last call that returned BOXGLUE_ACCEPTED. The job then forgets them.
  *
- * text takes the answers, and *size the number of their bytes, which may be 0. The rest of the buffer is as it was.
- *
- * Returns 0, 4 or 8. At 4 *size says what the buffer needs, and nothing is lost. At 8 *size is as it was. */
+ * @param job  the handle
+ * @param text, text_room  a buffer for the answers
+ * @param size  the number of their bytes, which may be 0, or at BOXGLUE_BUFFER_TOO_SMALL what the buffer needs. The rest of the buffer is unchanged
+ * @return BOXGLUE_ACCEPTED, BOXGLUE_BUFFER_TOO_SMALL or BOXGLUE_NO_JOB. At BOXGLUE_BUFFER_TOO_SMALL nothing is lost. At BOXGLUE_NO_JOB *size is unchanged
+ */
 uint32_t boxglue_job_answers(struct boxglue_job *job,
                              uint8_t *text, size_t text_room,
                              size_t *size);
 
-/* Hands over the bytes of the DVI file that went out since the last call that returned 0. What these calls hand over is the file, piece after piece: no byte is left
- * out, and none comes twice.
- * A page goes out when it is shipped, and the end of the file when the job is finished. The job keeps all bytes of the file until it is freed.
+/**
+ * @brief Hand over the bytes of the DVI file that went out since the last call that returned BOXGLUE_ACCEPTED.
  *
- * dvi takes the bytes, and *size their number, which may be 0. The rest of the buffer is as it was.
+ * The pieces that these calls hand over are the file: no byte is left out, and none comes twice. A page goes out when it is shipped, and the end of the file when the job
+ * is finished. The job keeps all bytes of the file until it is freed.
  *
- * Returns 0, 4 or 8. At 4 *size says what the buffer needs, and nothing is lost. At 8 *size is as it was. */
+ * @param job  the handle
+ * @param dvi, dvi_room  a buffer for the bytes
+ * @param size  the number of the bytes, which may be 0, or at BOXGLUE_BUFFER_TOO_SMALL what the buffer needs. The rest of the buffer is unchanged
+ * @return BOXGLUE_ACCEPTED, BOXGLUE_BUFFER_TOO_SMALL or BOXGLUE_NO_JOB. At BOXGLUE_BUFFER_TOO_SMALL nothing is lost. At BOXGLUE_NO_JOB *size is unchanged
+ */
 uint32_t boxglue_job_take(struct boxglue_job *job,
                           uint8_t *dvi, size_t dvi_room,
                           size_t *size);
 
-/* Ends the job: the end of the DVI file goes out, and the answer is the line that begins with "end: ". Answers and bytes can be handed over after it as before.
+/**
+ * @brief End the job: the end of the DVI file goes out, and the answer is the line that begins with "end: ".
  *
- * Returns 0, 1, 7, 8 or 10. At 1 and 7 that line has the refusal. After ListsOpen, OutOfMemory and JobOver no byte went out, and the job is as it was; after the
- * first two it may go on and be finished later. After Device the job is over, and a beginning of the file went out.
- * At 10 the line is lost, and whether the job has ended is known by the next call of it: JobOver. */
+ * Answers and bytes can be handed over after this call as before it. If the end is refused, the line has the refusal. After ListsOpen, OutOfMemory and
+ * JobOver no byte went out and the job is unchanged; after the first two it may go on and be finished later. After Device the job is over, and a
+ * beginning of the file went out.
+ *
+ * @param job  the handle
+ * @return BOXGLUE_ACCEPTED, BOXGLUE_REFUSED, BOXGLUE_REFUSED_MEMORY, BOXGLUE_NO_JOB or BOXGLUE_ANSWERS_LOST.
+ *         At BOXGLUE_ANSWERS_LOST the line is lost; the next call says whether the job has ended: JobOver
+ */
 uint32_t boxglue_job_finish(struct boxglue_job *job);
 
-/* What the reply to a line is. docs/COMMANDS.md, section 3, has the answers of each command, and docs/FORMATS.md their numbers. */
+/** @brief What the reply to a line is. docs/COMMANDS.md, section 3, has the answers of each command, and docs/FORMATS.md their numbers. */
 enum boxglue_reply_kind {
-    /* The command was done, and has nothing to report. */
+    /** The command was done, and has nothing to report. */
     BOXGLUE_REPLY_OK = 0,
-    /* The command, or the end of the job, was refused: refusal, and cause where it is BOXGLUE_REFUSAL_BAD_TFM. */
+    /** The command, or the end of the job, was refused. The reply has refusal, and cause if the refusal is BOXGLUE_REFUSAL_BAD_TFM. */
     BOXGLUE_REPLY_REFUSED = 1,
-    /* The piece or the script was refused for this line, and nothing of it was run: refusal, which is BOXGLUE_REFUSAL_BAD_SCRIPT, and cause. */
+    /** The piece or the script was refused for this line, and nothing of it was run. The reply has refusal, which is BOXGLUE_REFUSAL_BAD_SCRIPT, and cause. */
     BOXGLUE_REPLY_BAD_LINE = 2,
-    /* box, badness. */
+    /** A box was packed. The reply has box and badness. */
     BOXGLUE_REPLY_PACKED = 3,
-    /* box_kind, box. */
+    /** A box was measured. The reply has box_kind and box. */
     BOXGLUE_REPLY_MEASURED = 4,
-    /* The register that was measured is void. */
+    /** The register that was measured is void. */
     BOXGLUE_REPLY_MEASURED_VOID = 5,
-    /* count items were added for a text, missing. */
+    /** The items of a text were added. The reply has their count and missing. */
     BOXGLUE_REPLY_SHAPED = 6,
-    /* count items were added. */
+    /** Items were added. The reply has their count. */
     BOXGLUE_REPLY_ADDED = 7,
-    /* count lines, pass, overhang, demerits. */
+    /** A paragraph was broken. The reply has the count of its lines, pass, overhang and demerits. */
     BOXGLUE_REPLY_PARAGRAPH = 8,
-    /* box, which is the front, badness; has_rest, rest. */
+    /** A box was split. The reply has box, which is the front, badness, has_rest and rest. */
     BOXGLUE_REPLY_SPLIT = 9,
-    /* The register whose box was to be split is void. */
+    /** The register whose box was to be split is void. */
     BOXGLUE_REPLY_SPLIT_VOID = 10,
-    /* count pages were shipped so far. */
+    /** A page was shipped. The reply has the count of pages so far. */
     BOXGLUE_REPLY_SHIPPED = 11,
-    /* The job was ended: count pages, bytes. line is 0, as it is in a refusal of the end. */
+    /** The job was ended. The reply has the count of pages, and bytes. Its line is 0, as it is if the end is refused. */
     BOXGLUE_REPLY_END = 12
 };
 
-/* Why a command, the end of a job, a piece, a script or a file is refused: the numbers of docs/REFUSALS.md. */
+/** @brief Why a command, the end of a job, a piece, a script or a file is refused. docs/REFUSALS.md explains each number. */
 enum boxglue_refusal {
     BOXGLUE_REFUSAL_OUT_OF_MEMORY = 1,
     BOXGLUE_REFUSAL_BAD_SCRIPT = 2,
@@ -437,13 +591,13 @@ enum boxglue_refusal {
     BOXGLUE_REFUSAL_LISTS_OPEN = 17,
     BOXGLUE_REFUSAL_DEVICE = 18,
     BOXGLUE_REFUSAL_JOB_OVER = 19,
-    /* Only a DVI file is refused for this. */
+    /** Only a DVI file is refused for this. */
     BOXGLUE_REFUSAL_BAD_DVI = 20,
     BOXGLUE_REFUSAL_VOID_BOX = 21,
     BOXGLUE_REFUSAL_TOO_MUCH_SPECIAL = 22
 };
 
-/* Why a metric file is refused (docs/FORMATS.md, section 9). */
+/** @brief Why a metric file is refused (docs/FORMATS.md, section 9). */
 enum boxglue_tfm_cause {
     BOXGLUE_TFM_TOO_SHORT = 1,
     BOXGLUE_TFM_COUNTS = 2,
@@ -453,7 +607,7 @@ enum boxglue_tfm_cause {
     BOXGLUE_TFM_LIG_KERN = 6
 };
 
-/* Which rule a DVI file breaks (docs/FORMATS.md, section 7). */
+/** @brief Which rule a DVI file breaks (docs/FORMATS.md, section 7). */
 enum boxglue_dvi_cause {
     BOXGLUE_DVI_TRAILER = 1,
     BOXGLUE_DVI_VERSION = 2,
@@ -468,7 +622,7 @@ enum boxglue_dvi_cause {
     BOXGLUE_DVI_RANGE = 11
 };
 
-/* Why a line is bad (docs/FORMATS.md, section 2). */
+/** @brief Why a line is bad (docs/FORMATS.md, section 2). */
 enum boxglue_line_cause {
     BOXGLUE_LINE_BYTE = 1,
     BOXGLUE_LINE_WORD = 2,
@@ -479,92 +633,122 @@ enum boxglue_line_cause {
     BOXGLUE_LINE_NAME = 7
 };
 
-/* The kind of a box that was measured. A vtop is a vbox. */
+/** @brief The kind of a box that was measured. A vtop is a vbox. */
 enum boxglue_box_kind {
     BOXGLUE_BOX_HORIZONTAL = 0,
     BOXGLUE_BOX_VERTICAL = 1
 };
 
-/* The sizes of a box, in scaled points: 65,536 of them are a point. */
+/** @brief The sizes of a box, in scaled points, of which 65,536 are a point. */
 struct boxglue_box_sizes {
+    /** The width. */
     int32_t width;
+    /** The height above the reference point. */
     int32_t height;
+    /** The depth below the reference point. */
     int32_t depth;
 };
 
-/* The reply to a line of a script, or to the end of a job. What its kind does not have is 0. */
+/** @brief The reply to a line of a script, or to the end of a job. Fields that its kind does not have are 0. */
 struct boxglue_reply {
-    /* The number of the line, from 1. */
+    /** The number of the line, from 1. */
     uint64_t line;
-    /* One of enum boxglue_reply_kind. */
+    /** One of enum boxglue_reply_kind. */
     uint32_t kind;
-    /* One of enum boxglue_refusal; 0 where nothing was refused. */
+    /** One of enum boxglue_refusal, or 0 if nothing was refused. */
     uint32_t refusal;
-    /* One of enum boxglue_tfm_cause where the refusal is BadTfm, and of enum boxglue_line_cause where the line is bad; else 0. */
+    /** One of enum boxglue_tfm_cause if the refusal is BadTfm, and of enum boxglue_line_cause if the line is bad, else 0. */
     uint32_t cause;
-    /* One of enum boxglue_box_kind. */
+    /** One of enum boxglue_box_kind. */
     uint32_t box_kind;
+    /** The sizes of the box, or of the front of a split. */
     struct boxglue_box_sizes box;
+    /** The sizes of the rest of a split. */
     struct boxglue_box_sizes rest;
-    /* 1 where a split left a rest, else 0. */
+    /** 1 if a split left a rest, else 0. */
     uint32_t has_rest;
-    /* 0 to 10000, or 1000000 for an overfull box. */
+    /** 0 to 10000, or 1000000 for an overfull box. */
     uint32_t badness;
-    /* The pass that broke the paragraph, 1 to 3; 0 for an empty one. */
+    /** The pass that broke the paragraph, 1 to 3, or 0 for an empty paragraph. */
     uint32_t pass;
-    /* How many characters of the text the font does not have. UINT32_MAX stands for more, too. */
+    /** How many characters of the text the font does not have, or UINT32_MAX for that many or more. */
     uint32_t missing;
+    /** The number of items, lines or pages. */
     uint64_t count;
+    /** The number of bytes of the file. */
     uint64_t bytes;
-    /* By how much lines are overfull, in scaled points. */
+    /** By how much lines are overfull, in scaled points. */
     int64_t overhang;
+    /** The demerits of the lines. */
     int64_t demerits;
 };
 
-/* The sizes of the outputs of boxglue_run_replies: the number of replies, and the number of bytes of the DVI file. */
+/** @brief The sizes of the outputs of boxglue_run_replies. */
 struct boxglue_reply_sizes {
+    /** The number of replies. */
     size_t replies;
+    /** The number of bytes of the DVI file. */
     size_t dvi;
 };
 
-/* Runs a piece of a script as boxglue_job_commands does, and hands over the replies at once, as numbers. No answer is kept, and none can be lost; answers that are
- * kept already stay.
+/**
+ * @brief Run a piece of a script as boxglue_job_commands does, and hand over the replies at once, as numbers.
  *
- * replies takes a reply for each line with a command, in order, or the one reply of a piece with a bad line; *count takes their number. The rest of the buffer is as it
- * was. The room is tested before a line is run: as many as the piece has line feeds, and one, always suffice.
+ * The job keeps no answer of this piece, so none can be lost. Answers that it keeps already stay.
  *
- * Returns 0, 1, 2, 4, 7 or 8. At 7 the kind of a reply is refused, and its refusal is 1, OutOfMemory. At 4 nothing was run, and *count says what the buffer needs.
- * At 2 nothing was run. At 2 and 8 *count is as it was. */
+ * @param job  the handle
+ * @param script, script_size  the piece
+ * @param replies, reply_room  a buffer with a reply for each line that has a command, in order, or for the one reply of a piece with a bad line. The library tests its
+ *        capacity before it runs a line: one more than the piece has line feeds always suffices. The rest of the buffer is unchanged
+ * @param count  the number of replies, or at BOXGLUE_BUFFER_TOO_SMALL what the buffer needs
+ * @return BOXGLUE_ACCEPTED, BOXGLUE_REFUSED, BOXGLUE_OUT_OF_MEMORY, BOXGLUE_BUFFER_TOO_SMALL, BOXGLUE_REFUSED_MEMORY or BOXGLUE_NO_JOB.
+ *         At BOXGLUE_REFUSED_MEMORY a reply is refused as OutOfMemory. At BOXGLUE_OUT_OF_MEMORY and BOXGLUE_BUFFER_TOO_SMALL nothing was run. At
+ *         BOXGLUE_OUT_OF_MEMORY and BOXGLUE_NO_JOB *count is unchanged
+ */
 uint32_t boxglue_job_run(struct boxglue_job *job,
                          const uint8_t *script, size_t script_size,
                          struct boxglue_reply *replies, size_t reply_room,
                          size_t *count);
 
-/* Ends the job as boxglue_job_finish does, with one reply. No answer is kept; those that are kept already stay.
+/**
+ * @brief End the job as boxglue_job_finish does, with one reply.
  *
- * Returns 0, 1, 7 or 8. At 8 *reply is as it was. */
-uint32_t boxglue_job_end(struct boxglue_job *job, struct boxglue_reply *reply);
+ * The job keeps no answer of this call. Answers that it keeps already stay.
+ *
+ * @param job  the handle
+ * @param reply  the reply
+ * @return BOXGLUE_ACCEPTED, BOXGLUE_REFUSED, BOXGLUE_REFUSED_MEMORY or BOXGLUE_NO_JOB. At BOXGLUE_NO_JOB *reply is unchanged
+ */
+uint32_t boxglue_job_end(struct boxglue_job *job,
+                         struct boxglue_reply *reply);
 
-/* Runs a script with these fonts as boxglue_run does, with its replies as numbers.
+/**
+ * @brief Run a script with these fonts as boxglue_run does, with its replies as numbers.
  *
- * replies takes a reply for each line with a command, in order, and then that of the end; or the one reply of a script with a bad line.
- * dvi takes the bytes of the DVI file, as in boxglue_run. *sizes takes the numbers of both. The rest of each buffer is as it was.
+ * If a buffer is too small, the script was run, and a second call runs it again.
  *
- * Returns 0, 1, 2, 3, 4 or 7, as boxglue_run. At 4 *sizes says what both buffers need, and nothing is written to them: the script was run, and a second call runs it
- * again. At 2 and 3 *sizes is as it was. */
+ * @param script, script_size  the script
+ * @param fonts, font_count  the fonts that the script may load
+ * @param replies, reply_room  a buffer with a reply for each line that has a command, in order, and then the reply of the end; or for the one reply of a script with a
+ *        bad line
+ * @param dvi, dvi_room  a buffer for the bytes of the DVI file, as in boxglue_run
+ * @param sizes  the numbers of both, or at BOXGLUE_BUFFER_TOO_SMALL what both buffers need. The rest of each buffer is unchanged
+ * @return BOXGLUE_ACCEPTED, BOXGLUE_REFUSED, BOXGLUE_OUT_OF_MEMORY, BOXGLUE_BAD_FONT_NAME, BOXGLUE_BUFFER_TOO_SMALL or BOXGLUE_REFUSED_MEMORY. At
+ *         BOXGLUE_BUFFER_TOO_SMALL the buffers are unchanged. At BOXGLUE_OUT_OF_MEMORY and BOXGLUE_BAD_FONT_NAME *sizes is unchanged
+ */
 uint32_t boxglue_run_replies(const uint8_t *script, size_t script_size,
                              const struct boxglue_font *fonts, size_t font_count,
                              struct boxglue_reply *replies, size_t reply_room,
                              uint8_t *dvi, size_t dvi_room,
                              struct boxglue_reply_sizes *sizes);
 
-/* What an item of a box is. */
+/** @brief What an item of a box is. */
 enum boxglue_item_kind {
-    /* A character of a font. */
+    /** A character of a font. */
     BOXGLUE_ITEM_GLYPH = 1,
-    /* A kern between two characters, from the font. */
+    /** A kern that the font puts between two characters. */
     BOXGLUE_ITEM_FONT_KERN = 2,
-    /* A kern of a command. */
+    /** A kern of a command. */
     BOXGLUE_ITEM_KERN = 3,
     BOXGLUE_ITEM_GLUE = 4,
     BOXGLUE_ITEM_PENALTY = 5,
@@ -574,86 +758,121 @@ enum boxglue_item_kind {
     BOXGLUE_ITEM_VBOX = 9
 };
 
-/* A number of scaled points of 128 bits: high times 2^64, plus low. It is high == 0 or, if negative, high == -1, wherever a page can be shipped. */
+/** @brief A number of scaled points of 128 bits: high times 2^64, plus low. If a page can be shipped, high is 0 or, for a negative number, -1. */
 struct boxglue_wide_dimen {
+    /** The lower 64 bits. */
     uint64_t low;
+    /** The upper 64 bits, with the sign. */
     int64_t high;
 };
 
-/* A box or an item of a box, in scaled points. What its kind does not have is 0. */
+/** @brief A box or an item of a box, in scaled points. Fields that its kind does not have are 0. */
 struct boxglue_item {
-    /* The number of boxes that contain it: 0 for the box itself. */
+    /** The number of boxes that contain it: 0 for the box itself. */
     uint32_t level;
-    /* One of enum boxglue_item_kind. */
+    /** One of enum boxglue_item_kind. */
     uint32_t kind;
-    /* The place, from the reference point of the outermost box: right grows to the right and down downward. Of a glyph, a kern, glue, a penalty and a special it is
-     * where the item starts, of a box its reference point, and of a rule its lower left corner. */
+    /** How far the item is to the right of the outermost box's reference point. Its place is the start of a glyph, kern, glue, penalty or special, the reference point of
+     * a box, or the lower left corner of a rule. */
     struct boxglue_wide_dimen right;
+    /** The same place, downward. */
     struct boxglue_wide_dimen down;
-    /* Of glue: the distance to the next item. */
+    /** The distance from glue to the next item. */
     struct boxglue_wide_dimen set_width;
-    /* The width of a glyph, a rule or a box, the amount of a kern, or the natural width of glue. A running size of a rule is the size of its box. */
+    /** The width of a glyph, rule or box, the amount of a kern, or the natural width of glue. A running size of a rule is the size of its box. */
     int32_t width;
+    /** The height of a glyph, rule or box. */
     int32_t height;
+    /** The depth of a glyph, rule or box. */
     int32_t depth;
-    /* Of a box in a list: how far it is moved, down in a horizontal list and to the right in a vertical one. */
+    /** How far a box in a list is moved: down in a horizontal list, to the right in a vertical one. */
     int32_t shift;
-    /* Of glue: stretch and shrink, with the order of each: 0 normal, 1 fil, 2 fill, 3 filll. */
+    /** How much glue stretches. */
     int32_t stretch;
+    /** The order of the stretch: 0 normal, 1 fil, 2 fill, 3 filll. */
     uint32_t stretch_order;
+    /** How much glue shrinks. */
     int32_t shrink;
+    /** The order of the shrink. */
     uint32_t shrink_order;
-    /* Of a box: 0 if its glue has its natural width, 1 if glue of setting_order stretches, 2 if it shrinks, by ratio_num / ratio_den of its stretch or shrink. */
+    /** How a box's glue is set: 0 if all glue has its natural width; 1 if glue of setting_order stretches by ratio_num / ratio_den of its stretch; 2 if it shrinks by this
+     * ratio of its shrink. */
     uint32_t setting;
+    /** The order of the glue that stretches or shrinks in a box. */
     uint32_t setting_order;
+    /** The numerator of a box's ratio. */
     int64_t ratio_num;
+    /** The denominator of a box's ratio. */
     int64_t ratio_den;
-    /* Of a glyph: the slot of its font, and its character. */
+    /** The slot of a glyph's font. */
     uint32_t slot;
+    /** A glyph's character. */
     uint32_t code;
+    /** A penalty's number. */
     int32_t penalty;
-    /* Of a rule: the sum of 1 if its width runs, 2 if its height does, and 4 if its depth does. */
+    /** The running sizes of a rule: the sum of 1 for its width, 2 for its height and 4 for its depth. */
     uint32_t running;
-    /* Of a special: where its text begins in the text buffer, and its size in bytes. */
+    /** Where a special's text begins in the text buffer. */
     uint64_t text_start;
+    /** The size of a special's text in bytes. */
     uint64_t text_size;
 };
 
-/* The number of items, and the bytes of the texts of the specials among them. */
+/** @brief The sizes of the outputs of boxglue_job_items. */
 struct boxglue_item_sizes {
+    /** The number of items. */
     size_t items;
+    /** The number of bytes of the texts of specials. */
     size_t text;
 };
 
-/* Lists the box in a register: an item for the box, and then its own, in order; an inner box comes before its items, which are one level deeper. The job is as it was.
+/**
+ * @brief List the box in a register: an item for the box, and then the box's items in order.
  *
- * items takes the items, and text the texts of the specials, one after the other; *sizes takes their numbers. The rest of each buffer is as it was.
- * A void register has no items.
+ * An inner box comes before its items, which are one level deeper. A void register has no items. The job is unchanged.
  *
- * Returns 0, 4, 6 or 8, and the first of 8, 6 and 4 that applies. At 4 *sizes says what both buffers need, and nothing is written to them. Status 6 is for a register
- * above 32767. At 6 and 8 *sizes is as it was. */
-uint32_t boxglue_job_items(struct boxglue_job *job, uint32_t register_number,
+ * @param job  the handle
+ * @param register_number  the register, 0 to 32767
+ * @param items, item_room  a buffer for the items
+ * @param text, text_room  a buffer for the texts of the specials, one after the other
+ * @param sizes  the numbers of both, or at BOXGLUE_BUFFER_TOO_SMALL what both buffers need. The rest of each buffer is unchanged
+ * @return BOXGLUE_ACCEPTED, or the first that applies of BOXGLUE_NO_JOB, BOXGLUE_OUT_OF_RANGE and BOXGLUE_BUFFER_TOO_SMALL.
+ *         At BOXGLUE_BUFFER_TOO_SMALL nothing is written to the buffers. At BOXGLUE_OUT_OF_RANGE and BOXGLUE_NO_JOB *sizes is unchanged
+ */
+uint32_t boxglue_job_items(struct boxglue_job *job,
+                           uint32_t register_number,
                            struct boxglue_item *items, size_t item_room,
                            uint8_t *text, size_t text_room,
                            struct boxglue_item_sizes *sizes);
 
-/* Frees all memory of the job, whether it was finished or not. The handle is null then, and may get another job. A handle without a job stays as it is. */
+/**
+ * @brief Free all memory of the job, whether it was finished or not.
+ *
+ * The handle is null then, and may get another job. A handle without a job is unchanged.
+ *
+ * @param job  the handle
+ */
 void boxglue_job_free(struct boxglue_job *job);
 
-/* What is below is for C and C++ alone, and not in the library: texts of the statuses, and calls by the names above.
+/* The library does not have the functions below, which are only for C and C++: texts of the statuses and refusals, and calls by the names above.
  *
- * A call passes an address of its own where a size, a count or a room is 0, so that the pointer beside it may be null. A script may be at any address, such as one of
- * char. boxglue_typed.h has the commands of scripts as calls. (boxglue_run)(..) in parentheses calls the
- * library itself, and so does each call where BOXGLUE_NO_INLINE is defined before this header. Strict C89 has no inline functions, and needs BOXGLUE_NO_INLINE. */
+ * Such a call passes an address of its own if a size, a count or a room is 0, so the pointer beside it may be null. A script may have any type, such as char *.
+ * boxglue_typed.h has the commands of scripts as calls. (boxglue_run)(..) in parentheses calls the library itself, and so does each call if BOXGLUE_NO_INLINE is defined
+ * before this header. Strict C89 has no inline functions, and needs BOXGLUE_NO_INLINE. */
 #ifndef BOXGLUE_NO_INLINE
 
-/* A status in a few words, as for a message. */
+/**
+ * @brief Return a status in a few words, as for a message.
+ *
+ * @param status  one of enum boxglue_status
+ * @return the words
+ */
 static inline const char *boxglue_status_text(uint32_t status) {
     switch (status) {
     case BOXGLUE_ACCEPTED: return "accepted";
     case BOXGLUE_REFUSED: return "refused: the text, or a reply, says why";
     case BOXGLUE_OUT_OF_MEMORY: return "out of memory";
-    case BOXGLUE_BAD_FONT_NAME: return "the name of a font has not 1 to 255 bytes";
+    case BOXGLUE_BAD_FONT_NAME: return "the name of a font does not have 1 to 255 bytes";
     case BOXGLUE_BUFFER_TOO_SMALL: return "a buffer is too small: the sizes say what is needed";
     case BOXGLUE_NO_SUCH_PAGE: return "the DVI file has no page of this number";
     case BOXGLUE_OUT_OF_RANGE: return "a number is out of its range";
@@ -661,11 +880,16 @@ static inline const char *boxglue_status_text(uint32_t status) {
     case BOXGLUE_NO_JOB: return "the handle has no job";
     case BOXGLUE_JOB_EXISTS: return "the handle has a job already";
     case BOXGLUE_ANSWERS_LOST: return "the commands were run, and there was no memory for their answers";
-    default: return "no status of boxglue";
+    default: return "not a status of boxglue";
     }
 }
 
-/* The name of a refusal, such as "NoFont", as answers have it. */
+/**
+ * @brief Return the name of a refusal, such as "NoFont", as answers have it.
+ *
+ * @param number  one of enum boxglue_refusal
+ * @return the name, or "unknown"
+ */
 static inline const char *boxglue_refusal_name(uint32_t number) {
     static const char *const names[] = {
         "OutOfMemory", "BadScript", "DimensionTooLarge", "NoFont", "BadTfm", "SlotTaken", "NoOpenList", "WrongMode", "WrongKind", "ListTooLong", "TooDeep",
@@ -674,7 +898,12 @@ static inline const char *boxglue_refusal_name(uint32_t number) {
     return number >= 1 && number <= sizeof names / sizeof *names ? names[number - 1] : "unknown";
 }
 
-/* The name of the rule that a DVI file breaks, such as "Trailer", as answers have it. */
+/**
+ * @brief Return the name of the rule that a DVI file breaks, such as "Trailer", as answers have it.
+ *
+ * @param cause  one of enum boxglue_dvi_cause
+ * @return the name, or "unknown"
+ */
 static inline const char *boxglue_bad_dvi_name(uint32_t cause) {
     static const char *const names[] = {
         "Trailer", "Version", "Opcode", "Pointer", "Count", "Preamble", "Truncated", "Stack", "Font", "Glyph", "Range"
@@ -682,12 +911,18 @@ static inline const char *boxglue_bad_dvi_name(uint32_t cause) {
     return cause >= 1 && cause <= sizeof names / sizeof *names ? names[cause - 1] : "unknown";
 }
 
-/* The name of the rule that a metric file breaks, such as "TooShort", as answers have it. */
+/**
+ * @brief Return the name of the rule that a metric file breaks, such as "TooShort", as answers have it.
+ *
+ * @param cause  one of enum boxglue_tfm_cause
+ * @return the name, or "unknown"
+ */
 static inline const char *boxglue_bad_tfm_name(uint32_t cause) {
     static const char *const names[] = {"TooShort", "Counts", "DesignSize", "CharInfo", "FixWord", "LigKern"};
     return cause >= 1 && cause <= sizeof names / sizeof *names ? names[cause - 1] : "unknown";
 }
 
+/** @cond */
 static inline const uint8_t *boxglue_bytes_at(const void *at, size_t size) {
     static uint8_t none;
     return size ? (const uint8_t *)at : &none;
@@ -900,6 +1135,7 @@ static inline uint32_t boxglue_run_replies_or_null(const void *script, size_t sc
 #define boxglue_job_items boxglue_job_items_or_null
 #define boxglue_run_replies boxglue_run_replies_or_null
 
+/** @endcond */
 #endif
 
 #ifdef __cplusplus

@@ -1,4 +1,6 @@
-/* boxglue_typed.h: the commands of scripts as calls, for C and C++, over boxglue_job_run of boxglue.h.
+/**
+ * @file boxglue_typed.h
+ * @brief The commands of scripts as calls, for C and C++.
  *
  *     struct boxglue_typed page;
  *     uint32_t status = boxglue_typed_new(&page, NULL, 0);
@@ -10,22 +12,20 @@
  *     if (!status) status = boxglue_do_finish(&page);
  *     boxglue_typed_free(&page);
  *
- * All of it is inline; the library has none of these names. Each call makes the text of one command (docs/COMMANDS.md, section 3), and runs it. What its kind of reply has
- * is in `reply` of the handle then.
+ * All calls are inline functions over boxglue_job_run of boxglue.h, and the library has none of their names. C99 or C++98 is enough.
  *
- * A text of a command is made on the stack. If the text of `text` or `special` is longer than 200 bytes, it is copied into memory of malloc, which is freed
- * before the call returns.
+ * Each boxglue_do call tests its arguments, runs one command (docs/COMMANDS.md, section 3), and stores the reply in the handle. It returns one of these statuses:
  *
- * Each call returns one of enum boxglue_status:
+ * - BOXGLUE_ACCEPTED: The command was done. `reply` has what it answers.
+ * - BOXGLUE_REFUSED: The command was refused and changed nothing. `reply.refusal` says why, and boxglue_refusal_name names it.
+ * - BOXGLUE_REFUSED_MEMORY: The same, because the system refused memory.
+ * - BOXGLUE_OUT_OF_RANGE: An argument is not allowed in a script, and nothing was sent. `fault` says what is wrong with it, and `place` where in a text.
+ * - BOXGLUE_OUT_OF_MEMORY: The system refused memory, and nothing was run. A text of more than 200 bytes needs memory of malloc, which the call frees.
+ * - BOXGLUE_NO_JOB: The handle is null, or has no job.
  *
- * - BOXGLUE_ACCEPTED: the command was done.
- * - BOXGLUE_REFUSED or BOXGLUE_REFUSED_MEMORY: it was refused and changed nothing; `reply.refusal` says why.
- * - BOXGLUE_OUT_OF_RANGE: a script cannot have an argument, and nothing was sent. `fault` says what is wrong, and `place` where in a text.
- * - BOXGLUE_OUT_OF_MEMORY: memory was refused, also to a long text, and nothing was run.
- * - BOXGLUE_NO_JOB: the handle is null, or has no job.
- *
- * A handle may be null in all calls. It goes to one call at a time, and is never copied. Scripts may be run on its job too: boxglue_job_run(&page.job, ..).
- * C99 or C++98 is enough. */
+ * A handle may be null in all calls. Give a handle to one call at a time, and do not copy it. You may run scripts on its job, too: boxglue_job_run(&page.job, ..).
+ * No other pointer may be null unless the size or the count beside it is 0.
+ */
 #ifndef BOXGLUE_TYPED_H
 #define BOXGLUE_TYPED_H
 
@@ -38,72 +38,126 @@
 extern "C" {
 #endif
 
+/** @cond */
 #if defined(__GNUC__) || defined(__clang__)
 #define BOXGLUE_MUST_CHECK __attribute__((warn_unused_result))
 #else
 #define BOXGLUE_MUST_CHECK
 #endif
+/** @endcond */
 
-/* A dimension in scaled points, of which 65,536 are a point. One whose absolute value is above 1,073,741,823 does not fit. */
+/** @brief A dimension in scaled points, of which 65,536 are a point. It fits if its absolute value is at most 1,073,741,823. */
 typedef int32_t boxglue_sp;
 
-/* Whole points. */
+/** @brief Points, as a dimension. A fraction of a scaled point is cut off. */
 #define BOXGLUE_PT(points) ((boxglue_sp)((points) * 65536))
-/* A size of a rule that is the one of the box around the rule. */
+/** @brief In place of a size of a rule: the rule takes this size from the box around it. */
 #define BOXGLUE_RUNNING ((boxglue_sp)(-2147483647 - 1))
-/* In place of a register: the box goes into the enclosing list. */
+/** @brief In place of a register: the box goes into the enclosing list. */
 #define BOXGLUE_IN_LIST (-1)
 
-/* What a script cannot have. */
+/** @brief What is wrong with an argument. */
 enum boxglue_argument_fault {
+    /** Nothing is wrong. */
     BOXGLUE_FAULT_NONE = 0,
-    /* A number is out of its range. */
+    /** A number is out of its range. */
     BOXGLUE_FAULT_NUMBER = 1,
-    /* A dimension does not fit. */
+    /** A dimension does not fit. */
     BOXGLUE_FAULT_DIMENSION = 2,
-    /* A text has a byte that is not 32 to 126, or a font's name another one than a letter, a digit, `-`, `_` and `.`: at `place`. */
+    /** A byte of a text is not 32 to 126, or a byte of a font's name is not a letter, a digit, `-`, `_` or `.`. */
     BOXGLUE_FAULT_BYTE = 3,
-    /* The name of a font has not 1 to 255 bytes. */
+    /** The name of a font does not have 1 to 255 bytes. */
     BOXGLUE_FAULT_NAME = 4
 };
 
-/* How large a box is: its natural size, a size of its own, or by so much more than its natural size. */
-enum boxglue_target { BOXGLUE_NATURAL = 0, BOXGLUE_TO = 1, BOXGLUE_SPREAD = 2 };
+/** @brief How the size of a box is found. */
+enum boxglue_target {
+    /** Its natural size. */
+    BOXGLUE_NATURAL = 0,
+    /** The size that is given. */
+    BOXGLUE_TO = 1,
+    /** Its natural size and the size that is given, added. */
+    BOXGLUE_SPREAD = 2
+};
 
-/* An order of stretch and shrink. The amount of an infinite one is in 65536ths: BOXGLUE_PT(1) of BOXGLUE_FIL is 1fil. */
-enum boxglue_order { BOXGLUE_NORMAL = 0, BOXGLUE_FIL = 1, BOXGLUE_FILL = 2, BOXGLUE_FILLL = 3 };
+/** @brief An order of stretch and shrink. The unit of an amount of an infinite order is 1/65536 of it: BOXGLUE_PT(1) of BOXGLUE_FIL is 1fil. */
+enum boxglue_order {
+    /** Scaled points. */
+    BOXGLUE_NORMAL = 0,
+    /** The first infinite order. */
+    BOXGLUE_FIL = 1,
+    /** The second infinite order. */
+    BOXGLUE_FILL = 2,
+    /** The third infinite order. */
+    BOXGLUE_FILLL = 3
+};
 
-/* Glue: its natural width, its stretch and its shrink with their orders, each one of enum boxglue_order. */
+/** @brief Glue. */
 struct boxglue_glue {
+    /** The natural width. */
     boxglue_sp width;
+    /** The stretch. */
     boxglue_sp plus;
+    /** The shrink. */
     boxglue_sp minus;
+    /** The order of the stretch, one of enum boxglue_order. */
     uint32_t plus_order;
+    /** The order of the shrink, one of enum boxglue_order. */
     uint32_t minus_order;
 };
 
-/* The parameters (docs/COMMANDS.md, section 1): those that are dimensions, glues and numbers. */
+/** @brief The parameters that are dimensions (docs/COMMANDS.md, section 1). */
 enum boxglue_dimension_parameter {
-    BOXGLUE_BOXMAXDEPTH = 0, BOXGLUE_SPLITMAXDEPTH = 1, BOXGLUE_LINESKIPLIMIT = 2, BOXGLUE_HSIZE = 3, BOXGLUE_FIRSTSIZE = 4, BOXGLUE_HOFFSET = 5, BOXGLUE_VOFFSET = 6
-};
-enum boxglue_glue_parameter { BOXGLUE_SPLITTOPSKIP = 0, BOXGLUE_BASELINESKIP = 1, BOXGLUE_LINESKIP = 2, BOXGLUE_PARFILLSKIP = 3 };
-enum boxglue_number_parameter {
-    BOXGLUE_PRETOLERANCE = 0, BOXGLUE_TOLERANCE = 1, BOXGLUE_LINEPENALTY = 2, BOXGLUE_ADJDEMERITS = 3, BOXGLUE_CLUBPENALTY = 4, BOXGLUE_WIDOWPENALTY = 5,
-    BOXGLUE_INTERLINEPENALTY = 6, BOXGLUE_FIRSTLINES = 7
+    BOXGLUE_BOXMAXDEPTH = 0,
+    BOXGLUE_SPLITMAXDEPTH = 1,
+    BOXGLUE_LINESKIPLIMIT = 2,
+    BOXGLUE_HSIZE = 3,
+    BOXGLUE_FIRSTSIZE = 4,
+    BOXGLUE_HOFFSET = 5,
+    BOXGLUE_VOFFSET = 6
 };
 
-/* A job, and what its last call came to. Only these calls write it. */
+/** @brief The parameters that are glues (docs/COMMANDS.md, section 1). */
+enum boxglue_glue_parameter {
+    BOXGLUE_SPLITTOPSKIP = 0,
+    BOXGLUE_BASELINESKIP = 1,
+    BOXGLUE_LINESKIP = 2,
+    BOXGLUE_PARFILLSKIP = 3
+};
+
+/** @brief The parameters that are numbers (docs/COMMANDS.md, section 1). */
+enum boxglue_number_parameter {
+    BOXGLUE_PRETOLERANCE = 0,
+    BOXGLUE_TOLERANCE = 1,
+    BOXGLUE_LINEPENALTY = 2,
+    BOXGLUE_ADJDEMERITS = 3,
+    BOXGLUE_CLUBPENALTY = 4,
+    BOXGLUE_WIDOWPENALTY = 5,
+    BOXGLUE_INTERLINEPENALTY = 6,
+    BOXGLUE_FIRSTLINES = 7
+};
+
+/** @brief A job, with the reply and the fault of its last call. Only these calls may write it. */
 struct boxglue_typed {
+    /** The job. */
     struct boxglue_job job;
-    /* The reply to the last command that was run. */
+    /** The reply to the last command that was run. */
     struct boxglue_reply reply;
-    /* What a script could not have in the last call, one of enum boxglue_argument_fault, and where in a text. */
+    /** What is wrong with an argument of the last call, one of enum boxglue_argument_fault. */
     uint32_t fault;
+    /** Where in the text or the name of the last call the bad byte is, from 0, if the fault is BOXGLUE_FAULT_BYTE. */
     size_t place;
 };
 
-/* Makes a job with these fonts, as boxglue_job_new does. Whatever the handle had before is forgotten, so free a job first.
- * Returns 0, 2 or 3; BOXGLUE_NO_JOB for a null handle. */
+/**
+ * @brief Make a job with these fonts, as boxglue_job_new does.
+ *
+ * The call overwrites the handle, so free an earlier job first.
+ *
+ * @param typed  the handle
+ * @param fonts, font_count  the fonts that `load` may name
+ * @return BOXGLUE_ACCEPTED, BOXGLUE_OUT_OF_MEMORY, BOXGLUE_BAD_FONT_NAME or BOXGLUE_NO_JOB, which means a null handle
+ */
 static inline BOXGLUE_MUST_CHECK uint32_t boxglue_typed_new(struct boxglue_typed *typed, const struct boxglue_font *fonts, size_t font_count) {
     if (!typed) return BOXGLUE_NO_JOB;
     memset(typed, 0, sizeof *typed);
@@ -111,14 +165,22 @@ static inline BOXGLUE_MUST_CHECK uint32_t boxglue_typed_new(struct boxglue_typed
     return boxglue_job_new(&typed->job, fonts, font_count);
 }
 
-/* Frees the job. The handle may be null, or have none. */
+/**
+ * @brief Free the job, if there is one.
+ *
+ * @param typed  the handle
+ */
 static inline void boxglue_typed_free(struct boxglue_typed *typed) {
     if (typed) boxglue_job_free(&typed->job);
 }
 
-/* Tests whether a script can have a text, in a line of `text` or `special`: it has the bytes 32 to 126. Scripts have no escapes.
+/**
+ * @brief Test whether a text may stand in a line of `text` or `special`: all its bytes must be 32 to 126, since scripts have no escapes.
  *
- * Returns 0; or BOXGLUE_OUT_OF_RANGE, and *place is the place of the first other byte. `place` may be null. */
+ * @param text, size  the text
+ * @param place  the place of the first other byte, from 0, written at BOXGLUE_OUT_OF_RANGE. It may be null
+ * @return BOXGLUE_ACCEPTED or BOXGLUE_OUT_OF_RANGE
+ */
 static inline BOXGLUE_MUST_CHECK uint32_t boxglue_quote(const void *text, size_t size, size_t *place) {
     const unsigned char *bytes = (const unsigned char *)text;
     size_t at;
@@ -131,6 +193,7 @@ static inline BOXGLUE_MUST_CHECK uint32_t boxglue_quote(const void *text, size_t
     return BOXGLUE_ACCEPTED;
 }
 
+/** @cond */
 /* Below are the texts of commands. A line is a handle, its text so far, and its end. */
 
 enum { BOXGLUE_LINE_ROOM = 256, BOXGLUE_SHORT_TEXT = 200 };
@@ -163,16 +226,22 @@ static inline void boxglue_line_refuse(struct boxglue_line *line, uint32_t fault
     if (!line->fault) line->fault = fault;
 }
 
-/* The digits of a number. */
+/* The digits of a number, two at a time from the last ones on, and then all ten bytes at once: what is after the digits is overwritten by what follows. */
 static inline void boxglue_line_digits(struct boxglue_line *line, uint32_t number) {
-    static const char DIGITS[] = "0123456789";
-    char digits[10];
-    size_t count = 0;
-    do {
-        digits[count++] = DIGITS[number % 10];
-        number /= 10;
-    } while (number);
-    while (count) *line->at++ = digits[--count];
+    static const char PAIRS[] =
+        "0001020304050607080910111213141516171819202122232425262728293031323334353637383940414243444546474849"
+        "5051525354555657585960616263646566676869707172737475767778798081828384858687888990919293949596979899";
+    char digits[20] = {0};
+    char *first = digits + 10;
+    while (number >= 10) {
+        first -= 2;
+        memcpy(first, PAIRS + number % 100 * 2, 2);
+        number /= 100;
+    }
+    /* One digit is left over, unless the first pair was taken whole. */
+    if (number || first == digits + 10) *--first = (char)('0' + (char)number);
+    memcpy(line->at, first, 10);
+    line->at += digits + 10 - first;
 }
 
 static inline void boxglue_line_number(struct boxglue_line *line, int32_t number, int32_t least, int32_t most) {
@@ -293,9 +362,20 @@ static inline BOXGLUE_MUST_CHECK uint32_t boxglue_line_of_box(struct boxglue_typ
     return boxglue_line_end(&line);
 }
 
-/* Fonts. */
+/** @endcond */
 
-/* Loads a font into a slot, 0 to 255, at a size in scaled points; 0 is its design size. The name ends with a byte 0. */
+/** @name Fonts
+ * @{ */
+
+/**
+ * @brief Load a font into a slot.
+ *
+ * @param typed  the handle
+ * @param slot  the slot, 0 to 255
+ * @param name  the name of the font, which ends with a byte 0
+ * @param at  the size, 1 to 2^27 - 1, or 0 for the design size
+ * @return BOXGLUE_ACCEPTED, BOXGLUE_REFUSED, BOXGLUE_REFUSED_MEMORY, BOXGLUE_OUT_OF_RANGE, BOXGLUE_OUT_OF_MEMORY or BOXGLUE_NO_JOB
+ */
 static inline BOXGLUE_MUST_CHECK uint32_t boxglue_do_load(struct boxglue_typed *typed, int32_t slot, const char *name, boxglue_sp at) {
     static const char MORE[] = "-_.";
     struct boxglue_line line;
@@ -326,7 +406,13 @@ static inline BOXGLUE_MUST_CHECK uint32_t boxglue_do_load(struct boxglue_typed *
     return boxglue_line_run(typed, whole, place + size + (size_t)(line.at - line.text));
 }
 
-/* Makes the font of a slot the current one. */
+/**
+ * @brief Make the font of a slot the current one.
+ *
+ * @param typed  the handle
+ * @param slot  the slot, 0 to 255
+ * @return BOXGLUE_ACCEPTED, BOXGLUE_REFUSED, BOXGLUE_REFUSED_MEMORY, BOXGLUE_OUT_OF_RANGE, BOXGLUE_OUT_OF_MEMORY or BOXGLUE_NO_JOB
+ */
 static inline BOXGLUE_MUST_CHECK uint32_t boxglue_do_use(struct boxglue_typed *typed, int32_t slot) {
     struct boxglue_line line;
     boxglue_line_begin(&line, typed, "use");
@@ -334,47 +420,97 @@ static inline BOXGLUE_MUST_CHECK uint32_t boxglue_do_use(struct boxglue_typed *t
     return boxglue_line_end(&line);
 }
 
-/* Lists. */
+/** @}
+ * @name Lists
+ * @{ */
 
-/* Opens the list of an hbox: of its natural width, of the width `size`, or wider by `size`. The box goes into a register, or BOXGLUE_IN_LIST. */
+/**
+ * @brief Open the list of an hbox.
+ *
+ * @param typed  the handle
+ * @param target  how the width of the box is found
+ * @param size  the size for this target; ignored for BOXGLUE_NATURAL
+ * @param into  the register for the box, 0 to 32767, or BOXGLUE_IN_LIST
+ * @return BOXGLUE_ACCEPTED, BOXGLUE_REFUSED, BOXGLUE_REFUSED_MEMORY, BOXGLUE_OUT_OF_RANGE, BOXGLUE_OUT_OF_MEMORY or BOXGLUE_NO_JOB
+ */
 static inline BOXGLUE_MUST_CHECK uint32_t boxglue_do_hbox(struct boxglue_typed *typed, enum boxglue_target target, boxglue_sp size, int32_t into) {
     return boxglue_line_of_box(typed, "hbox", target, size, into);
 }
 
-/* The same of a vbox, with its height. */
+/**
+ * @brief Open the list of a vbox.
+ *
+ * @param typed  the handle
+ * @param target  how the height of the box is found
+ * @param size  the size for this target; ignored for BOXGLUE_NATURAL
+ * @param into  the register for the box, 0 to 32767, or BOXGLUE_IN_LIST
+ * @return BOXGLUE_ACCEPTED, BOXGLUE_REFUSED, BOXGLUE_REFUSED_MEMORY, BOXGLUE_OUT_OF_RANGE, BOXGLUE_OUT_OF_MEMORY or BOXGLUE_NO_JOB
+ */
 static inline BOXGLUE_MUST_CHECK uint32_t boxglue_do_vbox(struct boxglue_typed *typed, enum boxglue_target target, boxglue_sp size, int32_t into) {
     return boxglue_line_of_box(typed, "vbox", target, size, into);
 }
 
-/* The same of a vtop. */
+/**
+ * @brief Open the list of a vtop.
+ *
+ * @param typed  the handle
+ * @param target  how the height of the box is found
+ * @param size  the size for this target; ignored for BOXGLUE_NATURAL
+ * @param into  the register for the box, 0 to 32767, or BOXGLUE_IN_LIST
+ * @return BOXGLUE_ACCEPTED, BOXGLUE_REFUSED, BOXGLUE_REFUSED_MEMORY, BOXGLUE_OUT_OF_RANGE, BOXGLUE_OUT_OF_MEMORY or BOXGLUE_NO_JOB
+ */
 static inline BOXGLUE_MUST_CHECK uint32_t boxglue_do_vtop(struct boxglue_typed *typed, enum boxglue_target target, boxglue_sp size, int32_t into) {
     return boxglue_line_of_box(typed, "vtop", target, size, into);
 }
 
-/* Opens a paragraph in a vertical list. */
+/**
+ * @brief Open a paragraph in a vertical list.
+ *
+ * @param typed  the handle
+ * @return BOXGLUE_ACCEPTED, BOXGLUE_REFUSED, BOXGLUE_REFUSED_MEMORY, BOXGLUE_OUT_OF_MEMORY or BOXGLUE_NO_JOB
+ */
 static inline BOXGLUE_MUST_CHECK uint32_t boxglue_do_par(struct boxglue_typed *typed) {
     struct boxglue_line line;
     boxglue_line_begin(&line, typed, "par");
     return boxglue_line_end(&line);
 }
 
-/* Ends the innermost list. The reply is BOXGLUE_REPLY_PACKED or BOXGLUE_REPLY_PARAGRAPH. */
+/**
+ * @brief End the innermost list. The reply is BOXGLUE_REPLY_PACKED or BOXGLUE_REPLY_PARAGRAPH.
+ *
+ * @param typed  the handle
+ * @return BOXGLUE_ACCEPTED, BOXGLUE_REFUSED, BOXGLUE_REFUSED_MEMORY, BOXGLUE_OUT_OF_MEMORY or BOXGLUE_NO_JOB
+ */
 static inline BOXGLUE_MUST_CHECK uint32_t boxglue_do_end(struct boxglue_typed *typed) {
     struct boxglue_line line;
     boxglue_line_begin(&line, typed, "end");
     return boxglue_line_end(&line);
 }
 
-/* Items. */
+/** @}
+ * @name Items
+ * @{ */
 
-/* Adds a text of so many bytes in the current font. The reply is BOXGLUE_REPLY_SHAPED. */
+/**
+ * @brief Add a text in the current font. The reply is BOXGLUE_REPLY_SHAPED.
+ *
+ * @param typed  the handle
+ * @param text, size  the text, whose bytes must be 32 to 126
+ * @return BOXGLUE_ACCEPTED, BOXGLUE_REFUSED, BOXGLUE_REFUSED_MEMORY, BOXGLUE_OUT_OF_RANGE, BOXGLUE_OUT_OF_MEMORY or BOXGLUE_NO_JOB
+ */
 static inline BOXGLUE_MUST_CHECK uint32_t boxglue_do_text(struct boxglue_typed *typed, const void *text, size_t size) {
     struct boxglue_line line;
     boxglue_line_begin(&line, typed, "text ");
     return boxglue_line_end_text(&line, text, size);
 }
 
-/* Adds a character of the current font, 0 to 255. The reply is BOXGLUE_REPLY_SHAPED. */
+/**
+ * @brief Add a character of the current font. The reply is BOXGLUE_REPLY_SHAPED.
+ *
+ * @param typed  the handle
+ * @param code  the character, 0 to 255
+ * @return BOXGLUE_ACCEPTED, BOXGLUE_REFUSED, BOXGLUE_REFUSED_MEMORY, BOXGLUE_OUT_OF_RANGE, BOXGLUE_OUT_OF_MEMORY or BOXGLUE_NO_JOB
+ */
 static inline BOXGLUE_MUST_CHECK uint32_t boxglue_do_char(struct boxglue_typed *typed, int32_t code) {
     struct boxglue_line line;
     boxglue_line_begin(&line, typed, "char");
@@ -382,7 +518,13 @@ static inline BOXGLUE_MUST_CHECK uint32_t boxglue_do_char(struct boxglue_typed *
     return boxglue_line_end(&line);
 }
 
-/* Adds a kern. */
+/**
+ * @brief Add a kern.
+ *
+ * @param typed  the handle
+ * @param amount  the amount
+ * @return BOXGLUE_ACCEPTED, BOXGLUE_REFUSED, BOXGLUE_REFUSED_MEMORY, BOXGLUE_OUT_OF_RANGE, BOXGLUE_OUT_OF_MEMORY or BOXGLUE_NO_JOB
+ */
 static inline BOXGLUE_MUST_CHECK uint32_t boxglue_do_kern(struct boxglue_typed *typed, boxglue_sp amount) {
     struct boxglue_line line;
     boxglue_line_begin(&line, typed, "kern");
@@ -390,7 +532,13 @@ static inline BOXGLUE_MUST_CHECK uint32_t boxglue_do_kern(struct boxglue_typed *
     return boxglue_line_end(&line);
 }
 
-/* Adds glue. */
+/**
+ * @brief Add glue.
+ *
+ * @param typed  the handle
+ * @param glue  the glue
+ * @return BOXGLUE_ACCEPTED, BOXGLUE_REFUSED, BOXGLUE_REFUSED_MEMORY, BOXGLUE_OUT_OF_RANGE, BOXGLUE_OUT_OF_MEMORY or BOXGLUE_NO_JOB
+ */
 static inline BOXGLUE_MUST_CHECK uint32_t boxglue_do_glue(struct boxglue_typed *typed, const struct boxglue_glue *glue) {
     struct boxglue_line line;
     boxglue_line_begin(&line, typed, "glue");
@@ -398,7 +546,13 @@ static inline BOXGLUE_MUST_CHECK uint32_t boxglue_do_glue(struct boxglue_typed *
     return boxglue_line_end(&line);
 }
 
-/* Adds a penalty, -500,000,000 to 500,000,000. */
+/**
+ * @brief Add a penalty.
+ *
+ * @param typed  the handle
+ * @param penalty  the penalty, -500,000,000 to 500,000,000
+ * @return BOXGLUE_ACCEPTED, BOXGLUE_REFUSED, BOXGLUE_REFUSED_MEMORY, BOXGLUE_OUT_OF_RANGE, BOXGLUE_OUT_OF_MEMORY or BOXGLUE_NO_JOB
+ */
 static inline BOXGLUE_MUST_CHECK uint32_t boxglue_do_penalty(struct boxglue_typed *typed, int32_t penalty) {
     struct boxglue_line line;
     boxglue_line_begin(&line, typed, "penalty");
@@ -406,7 +560,15 @@ static inline BOXGLUE_MUST_CHECK uint32_t boxglue_do_penalty(struct boxglue_type
     return boxglue_line_end(&line);
 }
 
-/* Adds a rule. A size may be BOXGLUE_RUNNING. */
+/**
+ * @brief Add a rule.
+ *
+ * @param typed  the handle
+ * @param width  the width, or BOXGLUE_RUNNING in a vertical list
+ * @param height  the height, or BOXGLUE_RUNNING in a horizontal list
+ * @param depth  the depth, or BOXGLUE_RUNNING in a horizontal list
+ * @return BOXGLUE_ACCEPTED, BOXGLUE_REFUSED, BOXGLUE_REFUSED_MEMORY, BOXGLUE_OUT_OF_RANGE, BOXGLUE_OUT_OF_MEMORY or BOXGLUE_NO_JOB
+ */
 static inline BOXGLUE_MUST_CHECK uint32_t boxglue_do_rule(struct boxglue_typed *typed, boxglue_sp width, boxglue_sp height, boxglue_sp depth) {
     struct boxglue_line line;
     boxglue_line_begin(&line, typed, "rule");
@@ -416,51 +578,111 @@ static inline BOXGLUE_MUST_CHECK uint32_t boxglue_do_rule(struct boxglue_typed *
     return boxglue_line_end(&line);
 }
 
-/* Adds a special, whose text of so many bytes is for the file's reader. */
+/**
+ * @brief Add a special, a text for the program that reads the file.
+ *
+ * @param typed  the handle
+ * @param text, size  the text, whose bytes must be 32 to 126
+ * @return BOXGLUE_ACCEPTED, BOXGLUE_REFUSED, BOXGLUE_REFUSED_MEMORY, BOXGLUE_OUT_OF_RANGE, BOXGLUE_OUT_OF_MEMORY or BOXGLUE_NO_JOB
+ */
 static inline BOXGLUE_MUST_CHECK uint32_t boxglue_do_special(struct boxglue_typed *typed, const void *text, size_t size) {
     struct boxglue_line line;
     boxglue_line_begin(&line, typed, "special ");
     return boxglue_line_end_text(&line, text, size);
 }
 
-/* Boxes in registers, 0 to 32,767. The reply to what adds items is BOXGLUE_REPLY_ADDED. */
+/** @}
+ * @name Boxes in registers
+ * @{ */
 
-/* Adds the box of a register, which is void then, moved down in a horizontal list and to the right in a vertical one. */
+/**
+ * @brief Add the box of a register, which becomes void. The reply is BOXGLUE_REPLY_ADDED.
+ *
+ * @param typed  the handle
+ * @param box  the register, 0 to 32767
+ * @param shift  how far the box is moved: down in a horizontal list, to the right in a vertical one
+ * @return BOXGLUE_ACCEPTED, BOXGLUE_REFUSED, BOXGLUE_REFUSED_MEMORY, BOXGLUE_OUT_OF_RANGE, BOXGLUE_OUT_OF_MEMORY or BOXGLUE_NO_JOB
+ */
 static inline BOXGLUE_MUST_CHECK uint32_t boxglue_do_box(struct boxglue_typed *typed, int32_t box, boxglue_sp shift) {
     return boxglue_line_of_shift(typed, "box", box, shift);
 }
 
-/* Adds a copy of it. */
+/**
+ * @brief Add a copy of the box of a register. The reply is BOXGLUE_REPLY_ADDED.
+ *
+ * @param typed  the handle
+ * @param box  the register, 0 to 32767
+ * @param shift  how far the box is moved: down in a horizontal list, to the right in a vertical one
+ * @return BOXGLUE_ACCEPTED, BOXGLUE_REFUSED, BOXGLUE_REFUSED_MEMORY, BOXGLUE_OUT_OF_RANGE, BOXGLUE_OUT_OF_MEMORY or BOXGLUE_NO_JOB
+ */
 static inline BOXGLUE_MUST_CHECK uint32_t boxglue_do_copy(struct boxglue_typed *typed, int32_t box, boxglue_sp shift) {
     return boxglue_line_of_shift(typed, "copy", box, shift);
 }
 
-/* Adds the items of the hbox of a register, which is void then. */
+/**
+ * @brief Add the items of the hbox of a register, which becomes void. The reply is BOXGLUE_REPLY_ADDED.
+ *
+ * @param typed  the handle
+ * @param box  the register, 0 to 32767
+ * @return BOXGLUE_ACCEPTED, BOXGLUE_REFUSED, BOXGLUE_REFUSED_MEMORY, BOXGLUE_OUT_OF_RANGE, BOXGLUE_OUT_OF_MEMORY or BOXGLUE_NO_JOB
+ */
 static inline BOXGLUE_MUST_CHECK uint32_t boxglue_do_unhbox(struct boxglue_typed *typed, int32_t box) {
     return boxglue_line_of_register(typed, "unhbox", box);
 }
 
-/* Adds copies of these items. */
+/**
+ * @brief Add copies of the items of the hbox of a register. The reply is BOXGLUE_REPLY_ADDED.
+ *
+ * @param typed  the handle
+ * @param box  the register, 0 to 32767
+ * @return BOXGLUE_ACCEPTED, BOXGLUE_REFUSED, BOXGLUE_REFUSED_MEMORY, BOXGLUE_OUT_OF_RANGE, BOXGLUE_OUT_OF_MEMORY or BOXGLUE_NO_JOB
+ */
 static inline BOXGLUE_MUST_CHECK uint32_t boxglue_do_unhcopy(struct boxglue_typed *typed, int32_t box) {
     return boxglue_line_of_register(typed, "unhcopy", box);
 }
 
-/* Adds the items of the vbox of a register, which is void then. */
+/**
+ * @brief Add the items of the vbox of a register, which becomes void. The reply is BOXGLUE_REPLY_ADDED.
+ *
+ * @param typed  the handle
+ * @param box  the register, 0 to 32767
+ * @return BOXGLUE_ACCEPTED, BOXGLUE_REFUSED, BOXGLUE_REFUSED_MEMORY, BOXGLUE_OUT_OF_RANGE, BOXGLUE_OUT_OF_MEMORY or BOXGLUE_NO_JOB
+ */
 static inline BOXGLUE_MUST_CHECK uint32_t boxglue_do_unvbox(struct boxglue_typed *typed, int32_t box) {
     return boxglue_line_of_register(typed, "unvbox", box);
 }
 
-/* Adds copies of these items. */
+/**
+ * @brief Add copies of the items of the vbox of a register. The reply is BOXGLUE_REPLY_ADDED.
+ *
+ * @param typed  the handle
+ * @param box  the register, 0 to 32767
+ * @return BOXGLUE_ACCEPTED, BOXGLUE_REFUSED, BOXGLUE_REFUSED_MEMORY, BOXGLUE_OUT_OF_RANGE, BOXGLUE_OUT_OF_MEMORY or BOXGLUE_NO_JOB
+ */
 static inline BOXGLUE_MUST_CHECK uint32_t boxglue_do_unvcopy(struct boxglue_typed *typed, int32_t box) {
     return boxglue_line_of_register(typed, "unvcopy", box);
 }
 
-/* Moves the last item of the list into a register if it is a box; else the register becomes void. */
+/**
+ * @brief Move the last item of the list into a register if it is a box; otherwise make the register void.
+ *
+ * @param typed  the handle
+ * @param into  the register, 0 to 32767
+ * @return BOXGLUE_ACCEPTED, BOXGLUE_REFUSED, BOXGLUE_REFUSED_MEMORY, BOXGLUE_OUT_OF_RANGE, BOXGLUE_OUT_OF_MEMORY or BOXGLUE_NO_JOB
+ */
 static inline BOXGLUE_MUST_CHECK uint32_t boxglue_do_lastbox(struct boxglue_typed *typed, int32_t into) {
     return boxglue_line_of_register(typed, "lastbox", into);
 }
 
-/* Splits the vbox of a register, which keeps the rest; the front goes into another one. The reply is BOXGLUE_REPLY_SPLIT or BOXGLUE_REPLY_SPLIT_VOID. */
+/**
+ * @brief Split the vbox of a register. The reply is BOXGLUE_REPLY_SPLIT or BOXGLUE_REPLY_SPLIT_VOID.
+ *
+ * @param typed  the handle
+ * @param box  the register, 0 to 32767, which keeps the rest
+ * @param to  the height of the front
+ * @param into  the register for the front, 0 to 32767
+ * @return BOXGLUE_ACCEPTED, BOXGLUE_REFUSED, BOXGLUE_REFUSED_MEMORY, BOXGLUE_OUT_OF_RANGE, BOXGLUE_OUT_OF_MEMORY or BOXGLUE_NO_JOB
+ */
 static inline BOXGLUE_MUST_CHECK uint32_t boxglue_do_vsplit(struct boxglue_typed *typed, int32_t box, boxglue_sp to, int32_t into) {
     struct boxglue_line line;
     boxglue_line_begin(&line, typed, "vsplit");
@@ -472,19 +694,40 @@ static inline BOXGLUE_MUST_CHECK uint32_t boxglue_do_vsplit(struct boxglue_typed
     return boxglue_line_end(&line);
 }
 
-/* Measures the box of a register. The reply is BOXGLUE_REPLY_MEASURED or BOXGLUE_REPLY_MEASURED_VOID. */
+/**
+ * @brief Measure the box of a register. The reply is BOXGLUE_REPLY_MEASURED or BOXGLUE_REPLY_MEASURED_VOID.
+ *
+ * @param typed  the handle
+ * @param box  the register, 0 to 32767
+ * @return BOXGLUE_ACCEPTED, BOXGLUE_REFUSED, BOXGLUE_REFUSED_MEMORY, BOXGLUE_OUT_OF_RANGE, BOXGLUE_OUT_OF_MEMORY or BOXGLUE_NO_JOB
+ */
 static inline BOXGLUE_MUST_CHECK uint32_t boxglue_do_measure(struct boxglue_typed *typed, int32_t box) {
     return boxglue_line_of_register(typed, "measure", box);
 }
 
-/* Makes a register void. */
+/**
+ * @brief Make a register void.
+ *
+ * @param typed  the handle
+ * @param box  the register, 0 to 32767
+ * @return BOXGLUE_ACCEPTED, BOXGLUE_REFUSED, BOXGLUE_REFUSED_MEMORY, BOXGLUE_OUT_OF_RANGE, BOXGLUE_OUT_OF_MEMORY or BOXGLUE_NO_JOB
+ */
 static inline BOXGLUE_MUST_CHECK uint32_t boxglue_do_void(struct boxglue_typed *typed, int32_t box) {
     return boxglue_line_of_register(typed, "void", box);
 }
 
-/* Parameters and pages. */
+/** @}
+ * @name Parameters and pages
+ * @{ */
 
-/* Sets a parameter that is a dimension. */
+/**
+ * @brief Set a parameter that is a dimension.
+ *
+ * @param typed  the handle
+ * @param which  the parameter
+ * @param value  the dimension
+ * @return BOXGLUE_ACCEPTED, BOXGLUE_REFUSED, BOXGLUE_REFUSED_MEMORY, BOXGLUE_OUT_OF_RANGE, BOXGLUE_OUT_OF_MEMORY or BOXGLUE_NO_JOB
+ */
 static inline BOXGLUE_MUST_CHECK uint32_t boxglue_do_set_dimension(struct boxglue_typed *typed, enum boxglue_dimension_parameter which, boxglue_sp value) {
     static const char *const NAMES[] = {"set boxmaxdepth", "set splitmaxdepth", "set lineskiplimit", "set hsize", "set firstsize", "set hoffset", "set voffset"};
     struct boxglue_line line;
@@ -494,7 +737,14 @@ static inline BOXGLUE_MUST_CHECK uint32_t boxglue_do_set_dimension(struct boxglu
     return boxglue_line_end(&line);
 }
 
-/* Sets a parameter that is a glue. */
+/**
+ * @brief Set a parameter that is a glue.
+ *
+ * @param typed  the handle
+ * @param which  the parameter
+ * @param value  the glue
+ * @return BOXGLUE_ACCEPTED, BOXGLUE_REFUSED, BOXGLUE_REFUSED_MEMORY, BOXGLUE_OUT_OF_RANGE, BOXGLUE_OUT_OF_MEMORY or BOXGLUE_NO_JOB
+ */
 static inline BOXGLUE_MUST_CHECK uint32_t boxglue_do_set_glue(struct boxglue_typed *typed, enum boxglue_glue_parameter which, const struct boxglue_glue *value) {
     static const char *const NAMES[] = {"set splittopskip", "set baselineskip", "set lineskip", "set parfillskip"};
     struct boxglue_line line;
@@ -504,7 +754,14 @@ static inline BOXGLUE_MUST_CHECK uint32_t boxglue_do_set_glue(struct boxglue_typ
     return boxglue_line_end(&line);
 }
 
-/* Sets a parameter that is a number: -500,000,000 to 500,000,000, and 0 to 32 of BOXGLUE_FIRSTLINES. */
+/**
+ * @brief Set a parameter that is a number.
+ *
+ * @param typed  the handle
+ * @param which  the parameter
+ * @param value  the number: 0 to 32 for BOXGLUE_FIRSTLINES, else -500,000,000 to 500,000,000
+ * @return BOXGLUE_ACCEPTED, BOXGLUE_REFUSED, BOXGLUE_REFUSED_MEMORY, BOXGLUE_OUT_OF_RANGE, BOXGLUE_OUT_OF_MEMORY or BOXGLUE_NO_JOB
+ */
 static inline BOXGLUE_MUST_CHECK uint32_t boxglue_do_set_number(struct boxglue_typed *typed, enum boxglue_number_parameter which, int32_t value) {
     static const char *const NAMES[] = {"set pretolerance", "set tolerance", "set linepenalty", "set adjdemerits", "set clubpenalty", "set widowpenalty",
                                         "set interlinepenalty", "set firstlines"};
@@ -515,7 +772,14 @@ static inline BOXGLUE_MUST_CHECK uint32_t boxglue_do_set_number(struct boxglue_t
     return boxglue_line_end(&line);
 }
 
-/* Sets one of the ten counts of the pages that follow, 0 to 9. */
+/**
+ * @brief Set one of the ten counts of the pages that follow.
+ *
+ * @param typed  the handle
+ * @param which  the count, 0 to 9
+ * @param value  the number
+ * @return BOXGLUE_ACCEPTED, BOXGLUE_REFUSED, BOXGLUE_REFUSED_MEMORY, BOXGLUE_OUT_OF_RANGE, BOXGLUE_OUT_OF_MEMORY or BOXGLUE_NO_JOB
+ */
 static inline BOXGLUE_MUST_CHECK uint32_t boxglue_do_count(struct boxglue_typed *typed, int32_t which, int32_t value) {
     struct boxglue_line line;
     boxglue_line_begin(&line, typed, "count");
@@ -524,17 +788,32 @@ static inline BOXGLUE_MUST_CHECK uint32_t boxglue_do_count(struct boxglue_typed 
     return boxglue_line_end(&line);
 }
 
-/* Ships the box of a register as the next page. The reply is BOXGLUE_REPLY_SHIPPED. */
+/**
+ * @brief Ship the box of a register as the next page. The register becomes void, and the reply is BOXGLUE_REPLY_SHIPPED.
+ *
+ * @param typed  the handle
+ * @param box  the register, 0 to 32767
+ * @return BOXGLUE_ACCEPTED, BOXGLUE_REFUSED, BOXGLUE_REFUSED_MEMORY, BOXGLUE_OUT_OF_RANGE, BOXGLUE_OUT_OF_MEMORY or BOXGLUE_NO_JOB
+ */
 static inline BOXGLUE_MUST_CHECK uint32_t boxglue_do_ship(struct boxglue_typed *typed, int32_t box) {
     return boxglue_line_of_register(typed, "ship", box);
 }
 
-/* Ends the job as boxglue_job_end does. The reply is BOXGLUE_REPLY_END. Take the bytes of the file by boxglue_job_take(&typed->job, ..). */
+/**
+ * @brief End the job as boxglue_job_end does. The reply is BOXGLUE_REPLY_END.
+ *
+ * Take the bytes of the file by boxglue_job_take(&typed->job, ..).
+ *
+ * @param typed  the handle
+ * @return BOXGLUE_ACCEPTED, BOXGLUE_REFUSED, BOXGLUE_REFUSED_MEMORY or BOXGLUE_NO_JOB
+ */
 static inline BOXGLUE_MUST_CHECK uint32_t boxglue_do_finish(struct boxglue_typed *typed) {
     if (!typed) return BOXGLUE_NO_JOB;
     typed->fault = BOXGLUE_FAULT_NONE;
     return boxglue_job_end(&typed->job, &typed->reply);
 }
+
+/** @} */
 
 #ifdef __cplusplus
 }

@@ -1,5 +1,6 @@
 #include "item_calls.h"
 #include "heap.h"
+#include "random_inputs.h"
 
 #include <stdio.h>
 #include <stdlib.h>
@@ -34,9 +35,10 @@ static void print_wide(wide number) {
 static struct items_result call_items(struct boxglue_job *job, uint32_t register_number, size_t items, size_t text) {
     struct items_result result = {.sizes = UNSET, .items = new_output(items * sizeof(struct boxglue_item)), .text = new_output(text)};
     void *before = job->at;
-    heap_begin(0);
+    size_t growths = heap_growths();
+    long live = heap_live();
     result.status = COUNTED(boxglue_job_items(job, register_number, (struct boxglue_item *)result.items.bytes, items, result.text.bytes, text, &result.sizes));
-    REQUIRE(heap_growths() == 0 && heap_live() == 0, "items takes memory");
+    REQUIRE(heap_growths() == growths && heap_live() == live, "items takes memory");
     REQUIRE(job->at == before, "items moves the job");
     int is_written = result.status == BOXGLUE_ACCEPTED, has_sizes = is_written || result.status == BOXGLUE_BUFFER_TOO_SMALL;
     REQUIRE(has_sizes || (result.sizes.items == UNSET.items && result.sizes.text == UNSET.text), "status %u writes the sizes", result.status);
@@ -70,6 +72,43 @@ static struct items_result exact_items(struct boxglue_job *job, uint32_t registe
     struct items_result result = call_items(job, register_number, sizes.items, sizes.text);
     REQUIRE(result.status == BOXGLUE_ACCEPTED && !memcmp(&result.sizes, &sizes, sizeof sizes), "with exact room the status is %u", result.status);
     return result;
+}
+
+/* Fails where the rows are not those of a box: a box first, each other row at most one level deeper than the one before it, and texts one after the other. */
+static void require_rows(const struct items_result *result) {
+    const struct boxglue_item *items = (const struct boxglue_item *)result->items.bytes;
+    uint64_t text = 0;
+    for (size_t at = 0; at < result->sizes.items; at++) {
+        const struct boxglue_item *item = &items[at];
+        int is_box = item->kind == BOXGLUE_ITEM_HBOX || item->kind == BOXGLUE_ITEM_VBOX, follows_box = at && items[at - 1].kind >= BOXGLUE_ITEM_HBOX;
+        REQUIRE(item->kind >= BOXGLUE_ITEM_GLYPH && item->kind <= BOXGLUE_ITEM_VBOX, "an item has the kind %u", item->kind);
+        REQUIRE(at ? item->level && item->level <= items[at - 1].level + (uint32_t)follows_box : !item->level && is_box, "row %zu has level %u", at, item->level);
+        REQUIRE(is_box == (item->ratio_den > 0) && item->setting <= 2, "row %zu has the setting %u", at, item->setting);
+        REQUIRE(item->kind != BOXGLUE_ITEM_SPECIAL || item->text_start == text, "row %zu has its text at %llu", at, (unsigned long long)item->text_start);
+        text += item->text_size;
+    }
+    REQUIRE(text == result->sizes.text, "the texts have %zu bytes", result->sizes.text);
+}
+
+void try_items(struct boxglue_job *job) {
+    static const uint32_t LAST[] = {32767, 32768, UINT32_MAX};
+    size_t chosen = below(12);
+    uint32_t register_number = chosen < 9 ? (uint32_t)chosen : LAST[chosen - 9];
+    if (register_number > 32767) {
+        require_status(job, register_number, below(3), below(3), BOXGLUE_OUT_OF_RANGE);
+        return;
+    }
+    struct items_result first = call_items(job, register_number, 0, 0);
+    struct boxglue_item_sizes sizes = first.sizes;
+    REQUIRE(first.status == (sizes.items ? BOXGLUE_BUFFER_TOO_SMALL : BOXGLUE_ACCEPTED), "without room the status is %u", first.status);
+    free_items(&first);
+    size_t items = below(2) ? sizes.items : below(sizes.items + 2), text = below(2) ? sizes.text : below(sizes.text + 2);
+    struct items_result result = call_items(job, register_number, items, text);
+    int fits = items >= sizes.items && text >= sizes.text;
+    REQUIRE(result.status == (fits ? BOXGLUE_ACCEPTED : BOXGLUE_BUFFER_TOO_SMALL), "room for %zu of %zu items: status %u", items, sizes.items, result.status);
+    REQUIRE(!memcmp(&result.sizes, &sizes, sizeof sizes), "a second call says other sizes");
+    if (fits) require_rows(&result);
+    free_items(&result);
 }
 
 static void print_item(const struct boxglue_item *item) {

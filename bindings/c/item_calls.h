@@ -9,4 +9,7 @@
  * is taken, or the job changes. */
 void print_items(const struct input *script, const struct fonts *fonts, uint32_t register_number);
 
+/* Lists the box of a random register with random rooms. Fails as above, and where the status does not fit the rooms, or the rows are not those of a box. */
+void try_items(struct boxglue_job *job);
+
 #endif

@@ -1,5 +1,6 @@
 #include "job_calls.h"
 #include "heap.h"
+#include "item_calls.h"
 #include "reply_calls.h"
 
 #include <stdlib.h>
@@ -93,6 +94,7 @@ struct job_result run_pieces(const struct pieces *pieces, size_t refused) {
     for (size_t from = 0, number = 0; from < pieces->script.size; number++) {
         struct input piece = piece_at(pieces, from, number);
         run_piece(&job, &piece, pieces->as_replies, &result);
+        try_items(&job);
         take_both(&job, &result);
         from += piece.size;
     }

@@ -1,4 +1,4 @@
-/* Makes each call of the library on inputs that are files, for tests/run --library; tests/steps/library_build.py builds and runs it.
+/* Makes each call of the library on inputs that are files, for tests/run --library; tests/common/library_build.py builds and runs it.
  *
  *     library_calls [--refuse] run SCRIPT [NAME=TFM ..]
  *     library_calls [--refuse] list DVI [NAME=TFM ..]

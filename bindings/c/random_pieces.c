@@ -1,5 +1,6 @@
 #include "random_pieces.h"
 #include "heap.h"
+#include "item_calls.h"
 #include "job_calls.h"
 #include "random_inputs.h"
 #include "whole_calls.h"
@@ -70,6 +71,7 @@ static void try_piece(struct boxglue_job *job, const struct input *piece, struct
     struct input answers = {0};
     take_all(job, boxglue_job_answers, &answers);
     take_all(job, boxglue_job_take, &joined->result.dvi);
+    try_items(job);
     if (status == BOXGLUE_REFUSED && answers.size > strlen(BAD_PIECE) && !memcmp(answers.bytes, BAD_PIECE, strlen(BAD_PIECE))) joined->bad++;
     else {
         count_status(joined, status);

@@ -46,7 +46,7 @@ def _sources():
     """The files of the source distribution, by their names in it."""
     names = ["README.md", "_backend.py", "pyproject.toml"]
     for folder in ("boxglue", "tests"):
-        names += [f"{folder}/{it}" for it in sorted(os.listdir(f"{HERE}/{folder}")) if it.endswith(".py") or it == "py.typed"]
+        names += [f"{folder}/{it}" for it in sorted(os.listdir(f"{HERE}/{folder}")) if it.endswith((".py", ".txt")) or it == "py.typed"]
     examples = {f"tests/examples/{it}": f"{EXAMPLES}/{it}" for it in sorted(os.listdir(EXAMPLES)) if it.endswith((".box", ".tfm"))}
     return {**{it: f"{HERE}/{it}" for it in names}, **examples, "wheel": WHEEL}
 

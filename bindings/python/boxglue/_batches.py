@@ -1,29 +1,26 @@
 """Many commands in one call."""
 from __future__ import annotations
 
-from collections.abc import Sequence
+from collections.abc import Iterator, Sequence
+from contextlib import contextmanager
 from sys import _getframe
 from typing import TYPE_CHECKING, Any, Generic, TypeVar
 
 from ._commands import Commands
 from ._lists import OpenBox, OpenParagraph
+from ._opened import Calls, line_of
 from ._public import public
 from ._replies import Added, Measured, Ok, Reply, Shipped, Split
 from ._status import BoxglueError, Refused
 
 if TYPE_CHECKING:
-    from types import CodeType, FrameType, TracebackType
+    from types import FrameType, TracebackType
 
     from ._job import Job
     from ._lists import EndT, LoadedFont
+    from ._status import Form
 
 ReplyT = TypeVar("ReplyT")
-
-
-def line_of(code: CodeType, place: int) -> tuple[str, int]:
-    """The file and the line of an instruction."""
-    lines = (line for first, end, line in code.co_lines() if first <= place < end and line is not None)
-    return code.co_filename, next(lines, code.co_firstlineno)
 
 
 def caller() -> tuple[str, int]:
@@ -42,11 +39,10 @@ def outside() -> FrameType:
 
 @public
 class Handle(Generic[ReplyT]):
-    """What a call of a batch returns: it has the reply once the batch has ended."""
+    """A command of a batch, whose reply it has once the batch has ended."""
     __slots__ = "_batch", "_at"
-
-    def __init__(self, batch: Batch, at: int) -> None:
-        self._batch, self._at = batch, at
+    _batch: Batch
+    _at: int
 
     def __repr__(self) -> str:
         return f"<Handle of {self._batch.command(self._at)!r}>"
@@ -64,7 +60,7 @@ class Handle(Generic[ReplyT]):
 
     @property
     def refusal(self) -> Refused | None:
-        """Why the command was refused; None where it was not.
+        """The refusal of the command; None if the command was not refused.
 
         Raises:
             BoxglueError: The batch has not ended, or was not run.
@@ -72,16 +68,12 @@ class Handle(Generic[ReplyT]):
         return self._batch.refusal(self._at)
 
 
-_new_handle = Handle.__new__
-
-
 class TextHandle(Handle[Added]):
     """The handle of a text that is sent as several commands: one reply for all of them."""
     __slots__ = ("_count",)
 
     def __init__(self, batch: Batch, at: int, count: int) -> None:
-        super().__init__(batch, at)
-        self._count = count
+        self._batch, self._at, self._count = batch, at, count
 
     @property
     def reply(self) -> Added:
@@ -104,34 +96,37 @@ def added(replies: list[Reply]) -> Added:
 class Batch(Commands["Handle[Ok]", "Handle[Added]", "Handle[Split]", "Handle[Measured]", "Handle[Shipped]"]):
     """Commands that are sent in one call, at the end of a `with`.
 
-    A refused command does not stop those after it. Then the end of the batch raises the first refusal, and the handles have what the other commands gave. If it was
-    about the opening or the end of a list, typed calls raise NeedsRecovery until `recover`.
-
-    If an exception leaves the `with`, nothing is sent, and the job is as it was before.
-
         with job.batch() as it:
             width = it.measure(7)
             it.ship(7)
         print(width.reply.width)
+
+    A refused command does not stop the commands after it. The end of the batch raises the first refusal, and the handles of the other commands have their
+    replies. If the refused command opened or ended a list, typed calls raise NeedsRecovery until `recover`.
+
+    If an exception leaves the `with`, nothing is sent, and the job is as it was before.
     """
 
     def __init__(self, job: Job) -> None:
         self._job, self._state = job, job._state
         self._lines: list[str] = []
-        self._callers: list[tuple[CodeType, int]] = []
+        self._calls = Calls()
         self._loads: dict[int, LoadedFont] = {}
-        self._of_lists: set[int] = set()
         self._replies: Sequence[Reply] | None = None
         self._is_open = False
-        self._before = [*self._state.lists], self._state.current, {**self._state.fonts}
 
     def __repr__(self) -> str:
         return f"<boxglue.Batch: {len(self._lines)}{'' if self._is_open else ', ended'}>"
 
     def __enter__(self) -> Batch:
+        self._begin()
+        return self
+
+    def _begin(self) -> None:
+        """Begins, and keeps what the job knows now."""
         self._job._begin(self)
         self._is_open = True
-        return self
+        self._before = [*self._state.lists], self._state.current, {**self._state.fonts}
 
     def __exit__(self, kind: type[BaseException] | None, error: BaseException | None, trace: TracebackType | None) -> None:
         self._is_open = False
@@ -141,12 +136,63 @@ class Batch(Commands["Handle[Ok]", "Handle[Added]", "Handle[Split]", "Handle[Mea
         else:
             self._cancel()
 
+    @contextmanager
+    def recorded(self) -> Iterator[None]:
+        """Collects the commands within a `with`, and runs none. After it the job is as it was.
+
+        Returns:
+            A context manager.
+
+        Raises:
+            NoJob: The job is closed.
+            BoxglueError: Another batch is open.
+            NeedsRecovery: An exception left a list open.
+        """
+        self._begin()
+        try:
+            yield
+        finally:
+            self._is_open = False
+            self._job._batch = None
+            self._cancel()
+
+    def lines(self) -> list[str]:
+        """Returns the commands of the batch.
+
+        Returns:
+            The commands, each a line.
+
+        Raises:
+            BoxglueError: One of them loads a font.
+        """
+        if self._loads:
+            raise BoxglueError("a piece of a paragraph loads no font")
+        return self._lines
+
     def command(self, at: int) -> str:
-        """A command of the batch."""
+        """Returns a command of the batch.
+
+        Args:
+            at: The number of the command, from 0.
+
+        Returns:
+            Its line, without the line feed.
+        """
         return self._lines[at].rstrip("\n")
 
     def reply(self, at: int) -> Reply:
-        """The reply to a command. A refusal is raised."""
+        """Returns the reply to a command.
+
+        Args:
+            at: The number of the command, from 0.
+
+        Returns:
+            The reply.
+
+        Raises:
+            Refused: The command was refused.
+            BoxglueError: The batch has not ended, or was not run.
+        """
         why = self.refusal(at)
         if why:
             raise why
@@ -154,11 +200,21 @@ class Batch(Commands["Handle[Ok]", "Handle[Added]", "Handle[Split]", "Handle[Mea
         return self._replies[at]
 
     def refusal(self, at: int) -> Refused | None:
-        """Why a command was refused."""
+        """Returns why a command was refused.
+
+        Args:
+            at: The number of the command, from 0.
+
+        Returns:
+            The refusal; None if the command was not refused.
+
+        Raises:
+            BoxglueError: The batch has not ended, or was not run.
+        """
         if self._replies is None:
             raise BoxglueError("the batch has not ended" if self._is_open else "the batch was not run")
         found = self._replies[at]
-        return found.of_command(self.command(at), line_of(*self._callers[at])) if isinstance(found, Refused) else None
+        return found if isinstance(found, Refused) else None
 
     def _cancel(self) -> None:
         """Forgets what the batch would have done."""
@@ -173,7 +229,7 @@ class Batch(Commands["Handle[Ok]", "Handle[Added]", "Handle[Split]", "Handle[Mea
         """Sends the commands."""
         try:
             self._state.check()
-            answers = self._job.commands("".join(self._lines))
+            answers = self._job._commands("".join(self._lines).encode("ascii"), self._calls)
         except BoxglueError:
             self._cancel()  # a list is left, memory was refused, or the job is closed: nothing was run
             raise
@@ -193,7 +249,7 @@ class Batch(Commands["Handle[Ok]", "Handle[Added]", "Handle[Split]", "Handle[Mea
         for at in refused:
             if at in self._loads:
                 del self._state.fonts[self._loads[at].slot]
-            if at in self._of_lists:
+            if at in self._calls.lists:
                 self._state.is_left = True
         why = self.refusal(refused[0])
         assert why is not None
@@ -211,11 +267,13 @@ class Batch(Commands["Handle[Ok]", "Handle[Added]", "Handle[Split]", "Handle[Mea
             self._check()
         if frame is None:
             frame = _getframe(2)
-        self._callers.append((frame.f_code, frame.f_lasti))
-        lines = self._lines
-        handle: Handle[Any] = _new_handle(Handle)  # a quarter quicker than by __init__
-        handle._batch, handle._at = self, len(lines)
+        lines, calls = self._lines, self._calls
+        handle: Handle[Any] = Handle()  # in half the time that __init__ would take
+        handle._batch = self
+        handle._at = len(lines)
         lines.append(line)
+        calls.codes.append(frame.f_code)
+        calls.places.append(frame.f_lasti)
         return handle
 
     _ok = _added = _split = _measured = _shipped = _add
@@ -231,18 +289,18 @@ class Batch(Commands["Handle[Ok]", "Handle[Added]", "Handle[Split]", "Handle[Mea
         self._add(line, outside())
         self._state.fonts[font.slot] = font
 
-    def _box(self, form: str, size: str) -> OpenBox:
-        self._of_lists.add(len(self._lines))
+    def _box(self, form: Form, size: str) -> OpenBox:
+        self._calls.lists[len(self._lines)] = form
         self._add(f"{form}{size}\n", outside())
         return OpenBox(form, self._job)
 
     def _paragraph(self) -> OpenParagraph:
-        self._of_lists.add(len(self._lines))
+        self._calls.lists[len(self._lines)] = "par"
         self._add("par\n", outside())
         return OpenParagraph("par", self._job)
 
     def _end(self, kind: type[EndT]) -> Handle[EndT]:
-        self._of_lists.add(len(self._lines))
+        self._calls.lists[len(self._lines)] = None
         return self._add("end\n", outside())
 
 

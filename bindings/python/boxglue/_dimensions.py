@@ -38,9 +38,9 @@ def scaled_points(text: str) -> int:
     """
     found = _DIMENSION.fullmatch(text)
     if not found or found[3] not in (*_UNITS, "sp"):
-        raise ValueError(f"no dimension: {text!r}")
+        raise ValueError(f"{text!r} is not a dimension: write a number and a unit, such as 12.5pt, without em or ex")
     if found[3] == "sp":
-        return _signed(int(found[2].partition(".")[0] or "0"), found[1] == "-", text)
+        return _signed(int(found[2].partition(".")[0] or "0"), found[1] == "-", text, "")
     return _in_unit(found[1] + found[2], found[3])
 
 
@@ -68,11 +68,18 @@ def points(dimension: int) -> str:
             return f"{'-' if dimension < 0 else ''}{abs(dimension) // POINT}.{digits}pt"
 
 
-def _signed(size: int, is_negative: bool, given: object) -> int:
+def _signed(size: int, is_negative: bool, given: object, unit: str, most: str = "a dimension is at most 16383.99998pt") -> int:
     """A dimension of this absolute value, which has to fit."""
     if size > GREATEST:
-        raise ValueError(f"too large: {given!r}")
+        raise ValueError(f"{given!s:.40}{unit} is too large: {most}")
     return -size if is_negative else size
+
+
+def _no_number(amount: object) -> ValueError:
+    """What is raised for an amount that is not a number."""
+    found = _DIMENSION.fullmatch(amount) if isinstance(amount, str) else None
+    advice = f": leave out the unit, or call scaled_points({amount!r})" if found and found[3] in (*_UNITS, "sp") else ""
+    return ValueError(f"{amount!r:.40} is not a number{advice}")
 
 
 def _ratio(amount: Any) -> tuple[int, int]:
@@ -80,7 +87,7 @@ def _ratio(amount: Any) -> tuple[int, int]:
     if isinstance(amount, str):
         found = _AMOUNT.fullmatch(amount)
         if not found:
-            raise ValueError(f"no number: {amount!r}")
+            raise _no_number(amount)
         whole, _, digits = found[2].partition(".")
         digits = digits[:17]  # more of them do not change the nearest number of 65536ths
         return int(f"{found[1]}{whole}{digits}"), 10 ** len(digits)
@@ -89,23 +96,28 @@ def _ratio(amount: Any) -> tuple[int, int]:
     try:
         top, bottom = amount.as_integer_ratio()
     except (OverflowError, ValueError):  # an infinity, or what is not a number
-        raise ValueError(f"no number: {amount!r}") from None
+        raise _no_number(amount) from None
     return top, bottom
 
 
-def _in_unit(amount: Amount, unit: str) -> int:
+def _size(amount: Amount, unit: str) -> tuple[int, bool]:
     """The scaled points of an amount of a unit, by the steps of a text (docs/FORMATS.md): the nearest number of 65536ths of the unit, halves upward; that number in
-    points, rounded down; the sign."""
+    points, rounded down. Whether the amount is negative stands beside them."""
     (top, bottom), (num, den) = _ratio(amount), _UNITS[unit]
     if isinstance(amount, float) and POINT * top % bottom:
         raise ValueError(f"{amount!r} is not exact: give {unit} a text, a Fraction or a Decimal, such as \"{amount!r}\"")
     fraction = (2 * POINT * abs(top) + bottom) // (2 * bottom)
-    return _signed(fraction * num // den, top < 0, amount)
+    return fraction * num // den, top < 0
+
+
+def _in_unit(amount: Amount, unit: str) -> int:
+    """The scaled points of an amount of a unit."""
+    return _signed(*_size(amount, unit), amount, unit)
 
 
 def scaled(amount: Amount) -> int:
     """An amount of stretch or shrink of an infinite order in 65536ths, as a script reads it."""
-    return _in_unit(amount, "pt")
+    return _signed(*_size(amount, "pt"), amount, "", "an infinite stretch or shrink is at most 16383.99998")
 
 
 @public
@@ -129,41 +141,111 @@ def pt(amount: Amount) -> int:
 
 @public
 def pc(amount: Amount) -> int:
-    """Converts picas (pc), of 12 points each, as `pt` converts points."""
+    """Converts picas (pc), of 12 points each, as `pt` converts points.
+
+    Args:
+        amount: As for `pt`.
+
+    Returns:
+        The scaled points.
+
+    Raises:
+        ValueError, TypeError: As for `pt`.
+    """
     return _in_unit(amount, "pc")
 
 
 @public
 def inch(amount: Amount) -> int:
-    """Converts inches (in), as `pt` converts points."""
+    """Converts inches (in), as `pt` converts points.
+
+    Args:
+        amount: As for `pt`.
+
+    Returns:
+        The scaled points.
+
+    Raises:
+        ValueError, TypeError: As for `pt`.
+    """
     return _in_unit(amount, "in")
 
 
 @public
 def bp(amount: Amount) -> int:
-    """Converts big points (bp), of which 72 are an inch, as `pt` converts points."""
+    """Converts big points (bp), of which 72 are an inch, as `pt` converts points.
+
+    Args:
+        amount: As for `pt`.
+
+    Returns:
+        The scaled points.
+
+    Raises:
+        ValueError, TypeError: As for `pt`.
+    """
     return _in_unit(amount, "bp")
 
 
 @public
 def cm(amount: Amount) -> int:
-    """Converts centimetres (cm), as `pt` converts points."""
+    """Converts centimetres (cm), as `pt` converts points.
+
+    Args:
+        amount: As for `pt`.
+
+    Returns:
+        The scaled points.
+
+    Raises:
+        ValueError, TypeError: As for `pt`.
+    """
     return _in_unit(amount, "cm")
 
 
 @public
 def mm(amount: Amount) -> int:
-    """Converts millimetres (mm), as `pt` converts points."""
+    """Converts millimetres (mm), as `pt` converts points.
+
+    Args:
+        amount: As for `pt`.
+
+    Returns:
+        The scaled points.
+
+    Raises:
+        ValueError, TypeError: As for `pt`.
+    """
     return _in_unit(amount, "mm")
 
 
 @public
 def dd(amount: Amount) -> int:
-    """Converts points of Didot (dd), as `pt` converts points."""
+    """Converts Didot points (dd), as `pt` converts points.
+
+    Args:
+        amount: As for `pt`.
+
+    Returns:
+        The scaled points.
+
+    Raises:
+        ValueError, TypeError: As for `pt`.
+    """
     return _in_unit(amount, "dd")
 
 
 @public
 def cc(amount: Amount) -> int:
-    """Converts ciceros (cc), of 12 points of Didot each, as `pt` converts points."""
+    """Converts ciceros (cc), of 12 Didot points each, as `pt` converts points.
+
+    Args:
+        amount: As for `pt`.
+
+    Returns:
+        The scaled points.
+
+    Raises:
+        ValueError, TypeError: As for `pt`.
+    """
     return _in_unit(amount, "cc")

@@ -4,8 +4,8 @@ from __future__ import annotations
 from collections.abc import Iterator, Sequence
 from typing import TYPE_CHECKING
 
-from ._encodings import Encoding
-from ._scripts import CHARACTERS
+from ._encodings import T1, Encoding
+from ._scripts import CHARACTERS, one_line
 from ._status import BadCharacter
 
 if TYPE_CHECKING:
@@ -17,9 +17,13 @@ SPACE, _LACKED = -1, -2
 
 def codes_of(text: str, encoding: Encoding) -> list[int]:
     """The codes of the characters of a text."""
+    if not hasattr(encoding, "get"):
+        raise TypeError(f"an encoding must be a mapping such as boxglue.T1, not {encoding!r:.40}")
     codes = [SPACE if it == " " else encoding.get(it, _LACKED) for it in text]
     if _LACKED in codes:
-        raise BadCharacter(text, codes.index(_LACKED), "the encoding lacks it")
+        place = codes.index(_LACKED)
+        example = ", such as boxglue.T1" if text[place] in T1 else ""
+        raise BadCharacter(text, place, f"the encoding lacks it{one_line(text[place]) or f': use a font and an encoding that have it{example}'}")
     wrong = next((place for place, it in enumerate(codes) if it != SPACE and not 0 <= it < CHARACTERS), None)
     if wrong is not None:
         raise BadCharacter(text, wrong, f"the encoding has the code {codes[wrong]}, and codes are 0 to 255")
@@ -33,7 +37,7 @@ def refuse_missing(text: str, codes: Sequence[int], metrics: Metrics) -> None:
             raise BadCharacter(text, place, f"the font lacks its character {code}")
 
 
-def _shaped(word: Sequence[int], metrics: Metrics | None) -> Iterator[tuple[list[int], int, int]]:
+def shaped(word: Sequence[int], metrics: Metrics | None) -> Iterator[tuple[list[int], int, int]]:
     """The glyphs of a word (docs/FORMATS.md, section 10): of each the characters that it stands for, its code, and the kern after it."""
     sources, code = [word[0]], word[0]
     for following in word[1:]:
@@ -76,7 +80,7 @@ def encoded(codes: Sequence[int], metrics: Metrics | None) -> list[str]:
         return [f"text {whole}\n"]
     lines: list[str] = []
     text, kern, was_plain = "", 0, False
-    for sources, code, next_kern in (glyph for word in _words(codes) for glyph in _shaped(word, metrics)):
+    for sources, code, next_kern in (glyph for word in _words(codes) for glyph in shaped(word, metrics)):
         plain = _plain(sources)
         if text and plain is None:
             lines.append(f"text {text}\n")

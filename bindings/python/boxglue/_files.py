@@ -60,7 +60,7 @@ class Fault:
 
     `name` and `number` name the refusal, such as "BadDvi" and 20. `cause` is the name of the broken rule, such as "Trailer", and `place` the number of bytes before
     it in the file. `missing` is the name of the font that is missing. `font` is the number by which the file selects the font whose metric file is refused. Each is
-    None where the refusal does not have it.
+    None if the refusal does not have it.
     """
     name: str
     number: int
@@ -78,11 +78,18 @@ def refusal_in(line: bytes) -> Refused:
     return Refused(found[2], int(found[1]), None, found[3] or "")
 
 
-def _text(call: Callable[..., int], room: int) -> str:
-    """The text of a call with one buffer. A refusal is raised."""
-    status, output = one_output(call, room)
+def refusal_of_file(line: bytes, words: tuple[Any, ...]) -> Refused:
+    """The refusal of a file in the line that a call with these words writes for it, with the name of a font that is missing."""
+    refused = refusal_in(line)
+    fault = _fault_of(words)[1] if refused.name == "NoFont" else None
+    return refused.of_command(None, None, (), f"no metric file for {fault.missing!r}") if fault else refused
+
+
+def _text(call: Callable[..., int], words: tuple[Any, ...], more: tuple[int, ...], room: int) -> str:
+    """The text of a call with these words, and one buffer. A refusal is raised."""
+    status, output = one_output(lambda *buffer: call(*words, *more, *buffer), room)
     if status == Status.REFUSED:
-        raise refusal_in(output)
+        raise refusal_of_file(output, words)
     return output.decode("ascii")
 
 
@@ -98,21 +105,50 @@ def file_words(dvi: bytes, given: Fonts) -> tuple[Any, ...]:
 
 @public
 def listing(dvi: Data, fonts: Fonts = ()) -> str:
-    """The listing of the marks of all pages of a DVI file. Raises Refused, OutOfMemory or BadFontName."""
+    """Lists the marks of all pages of a DVI file.
+
+    Args:
+        dvi: The bytes of the file.
+        fonts: The fonts that its pages may select: a mapping from names to the bytes of metric files, a `FontFolder`, or pairs of both.
+
+    Returns:
+        The text of `boxglue list` (docs/FORMATS.md, section 4).
+
+    Raises:
+        Refused: The file is bad (BadDvi), a font is missing (NoFont), or its metric file is bad (BadTfm) or too large (DimensionTooLarge).
+        OutOfMemory: The system refused memory.
+        BadFontName: The name of a font does not have 1 to 255 bytes.
+    """
     words = file_words(data_of(dvi, "a DVI file"), fonts)
-    return _text(lambda *room: library().boxglue_list(*words, *room), DVI_ROOM)
+    return _text(library().boxglue_list, words, (), DVI_ROOM)
 
 
 @public
 def check(dvi: Data, fonts: Fonts = ()) -> Fault | None:
-    """Checks a DVI file as `listing` does, and returns why it is refused, or None for a file that is accepted. Raises OutOfMemory or BadFontName."""
-    words, fault, name = file_words(data_of(dvi, "a DVI file"), fonts), FaultRow(), new_buffer(NAME_ROOM)
-    status = library().boxglue_check(*words, byref(fault), name, NAME_ROOM)
-    if status == Status.ACCEPTED:
-        return None
-    if status != Status.REFUSED:
+    """Checks a DVI file as `listing` does.
+
+    Args:
+        dvi: The bytes of the file.
+        fonts: The fonts that its pages may select: a mapping from names to the bytes of metric files, a `FontFolder`, or pairs of both.
+
+    Returns:
+        Why the file is refused; None if it is accepted.
+
+    Raises:
+        OutOfMemory: The system refused memory.
+        BadFontName: The name of a font does not have 1 to 255 bytes.
+    """
+    status, fault = _fault_of(file_words(data_of(dvi, "a DVI file"), fonts))
+    if status > Status.REFUSED:
         fail(status)
-    return _fault(fault, ctypes.string_at(name, fault.name_size))
+    return fault
+
+
+def _fault_of(words: tuple[Any, ...]) -> tuple[int, Fault | None]:
+    """The status of the check of a file, and the fault if it is refused."""
+    fault, name = FaultRow(), new_buffer(NAME_ROOM)
+    status: int = library().boxglue_check(*words, byref(fault), name, NAME_ROOM)
+    return status, _fault(fault, ctypes.string_at(name, fault.name_size)) if status == Status.REFUSED else None
 
 
 def _fault(row: FaultRow, name: bytes) -> Fault:
@@ -125,23 +161,47 @@ def _fault(row: FaultRow, name: bytes) -> Fault:
 
 @public
 def paint(dvi: Data, fonts: Fonts = (), *, page: int = 1, dpi: int = 100, width: int = 850, height: int = 1100) -> Bitmap:
-    """Paints the rules of a page of a DVI file: a page counted from 1, pixels an inch, and the size of the bitmap in pixels, 1 to 10,000.
+    """Paints the rules of a page of a DVI file.
 
-    Raises Refused, NoSuchPage, OutOfRange, OutOfMemory or BadFontName.
+    Args:
+        dvi: The bytes of the file.
+        fonts: The fonts that its pages may select: a mapping from names to the bytes of metric files, a `FontFolder`, or pairs of both.
+        page: The page, counted from 1.
+        dpi: Pixels an inch, 1 to 10,000.
+        width: The width of the bitmap in pixels, 1 to 10,000.
+        height: The height of the bitmap in pixels, 1 to 10,000.
+
+    Returns:
+        The bitmap. It shows no glyphs.
+
+    Raises:
+        Refused: The file is bad (BadDvi), a font is missing (NoFont), or its metric file is bad (BadTfm) or too large (DimensionTooLarge).
+        NoSuchPage: The file is good, and does not have this page.
+        OutOfRange: A number is out of its range.
+        OutOfMemory: The system refused memory.
+        BadFontName: The name of a font does not have 1 to 255 bytes.
     """
     numbers = [operator.index(it) for it in (page, dpi, width, height)]
     if not all(0 <= it < 1 << 32 for it in numbers):
         fail(Status.OUT_OF_RANGE)  # ctypes would cut it to 32 bits
-    words = (*file_words(data_of(dvi, "a DVI file"), fonts), *numbers)
+    words = file_words(data_of(dvi, "a DVI file"), fonts)
     room = len(f"P1\n{width} {height}\n") + (width + -(-width // 70)) * height if max(width, height) <= 10_000 else 0
-    return Bitmap(_text(lambda *buffer: library().boxglue_paint(*words, *buffer), max(room, TEXT_ROOM)))
+    return Bitmap(_text(library().boxglue_paint, words, (*numbers,), max(room, TEXT_ROOM)))
 
 
 @public
 def fonts(dvi: Data) -> list[DviFont]:
-    """The fonts that a DVI file defines after its pages, in the order of the file: their names are those that the other calls need.
+    """Reads the fonts that a DVI file defines after its pages. Their names are those that the other calls need.
 
-    It needs no metric files, and reads no page. Raises Refused or OutOfMemory.
+    Args:
+        dvi: The bytes of the file.
+
+    Returns:
+        The fonts in the order of the file.
+
+    Raises:
+        Refused: The file is bad (BadDvi). The call reads no page.
+        OutOfMemory: The system refused memory.
     """
     given, sizes, rooms = sized(data_of(dvi, "a DVI file")), FontSizes(), (FONT_ROOM, TEXT_ROOM)
     while True:

@@ -14,17 +14,17 @@ _SECONDS = 60
 
 @public
 class FontFolder(Mapping[str, bytes]):
-    """The metric files of folders by the names of their fonts: that of "cmr10" is cmr10.tfm in the first of the folders that has it.
+    """The metric files of folders, by the names of their fonts: the file of "cmr10" is cmr10.tfm in the first of the folders that has it.
 
-    A file is read when it is asked for, and kept. `run`, `listing`, `paint`, `marks` and `fonts` of this package take the fonts that their script or file names. A
-    `Job` takes all of the folders, so give it `folder.choose(names)`.
-
-        folder = boxglue.FontFolder("/usr/share/texmf/fonts/tfm/public/cm", kpsewhich=True)
+        folder = boxglue.FontFolder("/usr/share/texlive/texmf-dist/fonts/tfm/public/cm", kpsewhich=True)
         boxglue.run(script, folder)
+
+    The folder reads a file when you ask for it, and keeps it. `run`, `listing`, `paint`, `marks` and `check` take the fonts that their script or file names.
+    A `Job` takes all fonts of the folders, so give it `folder.choose(names)`.
 
     Args:
         folders: The folders, of which the first one that has a file counts.
-        kpsewhich: Whether TeX's program of this name looks for a font of no folder, where it is on the path. `choose` runs it once for all names.
+        kpsewhich: Whether TeX's program of this name, if it is on the path, looks for fonts that no folder has. `choose` runs it once for all names.
     """
 
     def __init__(self, *folders: str | os.PathLike[str], kpsewhich: bool = False) -> None:
@@ -49,13 +49,13 @@ class FontFolder(Mapping[str, bytes]):
         return f"FontFolder({', '.join(map(repr, self._folders))}{', kpsewhich=True' if self._kpsewhich else ''})"
 
     def choose(self, names: Iterable[str]) -> dict[str, bytes]:
-        """Reads files.
+        """Reads the metric files of fonts.
 
         Args:
-            names: The names of fonts.
+            names: The names of the fonts.
 
         Returns:
-            Their files, without those that there are not: the typesetter refuses them as NoFont.
+            The files that are there, by their names. The typesetter refuses the other fonts as NoFont.
         """
         wanted = [*dict.fromkeys(names)]
         self._look_for(wanted)

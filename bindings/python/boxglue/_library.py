@@ -23,7 +23,7 @@ Fonts: TypeAlias = "Mapping[str, Data] | Mapping[bytes, Data] | Iterable[tuple[T
 # The name of the library that the system's loader looks for.
 SYSTEM_LIBRARY = "libboxglue.so.1"
 # The sizes of the first buffers. Where an output needs more, the call is made again with what it needs.
-TEXT_ROOM, DVI_ROOM, FONT_ROOM = 1 << 14, 1 << 16, 64
+TEXT_ROOM, DVI_ROOM, FONT_ROOM, ITEM_ROOM = 1 << 14, 1 << 16, 64, 256
 
 
 class Font(Structure):
@@ -90,6 +90,21 @@ class ReplySizes(Structure):
     _fields_ = [("replies", c_size_t), ("dvi", c_size_t)]
 
 
+class WideDimen(Structure):
+    _fields_ = [("low", c_uint64), ("high", c_int64)]
+
+
+class ItemRow(Structure):
+    _fields_ = [("level", c_uint32), ("kind", c_uint32), *((name, WideDimen) for name in ("right", "down", "set_width")),
+                *((name, c_int32) for name in ("width", "height", "depth", "shift")), ("stretch", c_int32), ("stretch_order", c_uint32), ("shrink", c_int32),
+                ("shrink_order", c_uint32), ("setting", c_uint32), ("setting_order", c_uint32), ("ratio_num", c_int64), ("ratio_den", c_int64), ("slot", c_uint32),
+                ("code", c_uint32), ("penalty", c_int32), ("running", c_uint32), ("text_start", c_uint64), ("text_size", c_uint64)]
+
+
+class ItemSizes(Structure):
+    _fields_ = [("items", c_size_t), ("text", c_size_t)]
+
+
 class JobHandle(Structure):
     _fields_ = [("at", c_void_p)]
 
@@ -110,6 +125,7 @@ _CALLS = {
     "job_run": [POINTER(JobHandle), *_INPUT, *_REPLIES, *_SIZE],
     "job_take": [POINTER(JobHandle), *_OUTPUT, *_SIZE],
     "job_end": [POINTER(JobHandle), POINTER(ReplyRow)],
+    "job_items": [POINTER(JobHandle), c_uint32, POINTER(ItemRow), c_size_t, *_OUTPUT, POINTER(ItemSizes)],
     "job_free": [POINTER(JobHandle)],
 }
 
@@ -153,14 +169,27 @@ def library() -> Any:
 
 @public
 def version() -> str:
-    """The version of the library that is loaded, such as "1.2.0"."""
+    """Returns the version of the library that is loaded.
+
+    Returns:
+        The version, such as "1.2.0".
+
+    Raises:
+        BoxglueError: No library is found, or it does not fit this package.
+    """
     return shown_version(library().boxglue_version())
 
 
 @public
 def proved() -> bool:
-    """Whether the library that is loaded is proved: it says so itself. One that is not (`./install --unproved`) has run-time checks, and a fault of its own
-    ends the process."""
+    """Tells whether the library that is loaded is proved. An unproved one has run-time checks, and a fault of its own ends the process.
+
+    Returns:
+        What the library itself says.
+
+    Raises:
+        BoxglueError: No library is found, or it does not fit this package.
+    """
     return bool(library().boxglue_proved())
 
 
@@ -170,6 +199,11 @@ def data_of(given: Data, what: str, kinds: str = "bytes") -> bytes:
         return given if isinstance(given, bytes) else memoryview(given).tobytes()
     except TypeError:
         raise TypeError(f"{what} must be {kinds}, not {type(given).__name__}") from None
+
+
+def metrics_data(given: Data) -> bytes:
+    """The bytes of a metric file."""
+    return data_of(given, "a metric file", 'bytes, such as Path("cmr10.tfm").read_bytes()')
 
 
 def text_of(given: Text, what: str) -> bytes:
@@ -206,7 +240,7 @@ def given_fonts(given: Fonts) -> tuple[Any, int]:
     pairs = pairs_of(given)
     array = (Font * max(len(pairs), 1))()
     for at, (name, metrics) in enumerate(pairs):
-        array[at] = Font(*sized(text_of(name, "the name of a font")), *sized(data_of(metrics, "a metric file")))
+        array[at] = Font(*sized(text_of(name, "the name of a font")), *sized(metrics_data(metrics)))
     if not pairs:
         array[0] = Font(b"", 0, b"", 0)
     return array, len(pairs)

@@ -12,6 +12,8 @@ if TYPE_CHECKING:
     from types import TracebackType
 
     from ._library import Data
+    from ._metrics import Metrics
+    from ._paragraphs import Words
 
 EndT = TypeVar("EndT", bound="Packed | Paragraph")
 _Ended = TypeVar("_Ended", bound="Packed | Paragraph", covariant=True)
@@ -27,10 +29,10 @@ class Ends(Protocol[_Ended]):
 
 @public
 class LoadedFont:
-    """A font in a slot, as `load` of a job gives it.
+    """A font in a slot, which `load` of a job returns.
 
     Attributes:
-        slot: The number of its slot, by which DVI files and their marks mean it.
+        slot: The number of its slot, which DVI files and their marks use for it, too.
         name: Its name.
         size: Its size in scaled points; None is its design size.
     """
@@ -52,20 +54,32 @@ class State:
     def __init__(self, fonts: dict[str, Data]) -> None:
         self.lists: list[OpenList[Any]] = []
         self.is_left = False
-        self.files = fonts
+        self.files, self.names = fonts, tuple(fonts)
         self.fonts: dict[int, LoadedFont | None] = {}
         self.current: LoadedFont | None = None
         self.next_register, self.free_registers = REGISTERS - 1, list[int]()
+        # A paragraph with hyphens changes this parameter for a while. docs/boxglue.1 has its first value.
+        self.pretolerance = 100
+        self.metrics: dict[tuple[str, int | None], Metrics | None] = {}
+        self.words: dict[Any, Words] = {}
 
     def check(self) -> None:
         """Raises NeedsRecovery where an exception left a list open."""
         if self.is_left:
             lists = ", ".join(it.form for it in self.lists) or "none"
-            raise NeedsRecovery(f"an exception left a list open: say by recover() which are open; the typed calls opened: {lists}")
+            ends = 'end each by job.commands("end\\n"), then call job.recover(); or give recover() those that go on'
+            raise NeedsRecovery(f"an exception left lists open (typed calls opened: {lists}): {ends}")
 
     def loaded(self, name: str, size: int | None) -> LoadedFont | None:
         """The font that was loaded at this size."""
         return next((it for it in self.fonts.values() if it and (it.name, it.size) == (name, size)), None)
+
+    def own(self, font: LoadedFont) -> LoadedFont:
+        """A font, which must be one of this job: by another job's font, texts would have the wrong metrics."""
+        known = self.fonts.get(font.slot)
+        if known is not font and (known is None or (known.name, known.size) != (font.name, font.size)):
+            raise BoxglueError(f"{font!r} is not a font of this job: load it in this job")
+        return font
 
     def free_slot(self) -> int:
         """The first free slot."""
@@ -94,9 +108,9 @@ class Typed(Protocol):
 
 @public
 class Register:
-    """A register that a job chose: give its number or itself to calls, and give it back by `release` or at the end of a `with`.
+    """A register that a job chose. Give its number or itself to calls, and give it back by `release` or at the end of a `with`.
 
-    It is void at first. What is in it when it is given back is voided when it is chosen again.
+    It is void at first. The job voids it again before it gives it to another call.
 
     Attributes:
         number: Its number, 0 to 32,767.
@@ -116,7 +130,7 @@ class Register:
         return f"<Register {self.number}{'' if self._state else ', given back'}>"
 
     def release(self) -> None:
-        """Gives the register back. It may be called twice."""
+        """Gives the register back to the job. You may give it back twice."""
         if self._state is not None:
             self._state.free_registers.append(self.number)
             self._state = None
@@ -130,10 +144,10 @@ class Register:
 
 @public
 class OpenList(Generic[EndT]):
-    """A list that a typed call opened, as a context manager: its end sends `end`, and its reply is here afterwards.
+    """A list that a typed call opened, as a context manager. Its end sends `end`, and its reply is here afterwards.
 
-    After an exception within the `with` no `end` is sent, since it might end another list. Then typed calls on the job raise NeedsRecovery until `recover` of the
-    job has been told which lists are open.
+    After an exception within the `with`, no `end` is sent, since it might end another list. Typed calls on the job then raise NeedsRecovery until you say by
+    `recover` of the job which lists are open.
 
     Attributes:
         form: "hbox", "vbox", "vtop" or "par".
@@ -151,11 +165,11 @@ class OpenList(Generic[EndT]):
         return f"<{type(self).__name__} {self.form}{', open' if self.is_open else ''}>"
 
     def end(self) -> None:
-        """Ends the list, which must be the innermost one. The `with` does so by itself.
+        """Ends the list, which must be the innermost one. A `with` does so by itself.
 
         Raises:
             Refused: The end is refused, and the list is open as before.
-            BoxglueError: Another list is the innermost one.
+            BoxglueError: Another list is the innermost one, or this one is not open.
             NeedsRecovery: An exception left a list open.
         """
         state = self._typed._state
@@ -175,6 +189,9 @@ class OpenList(Generic[EndT]):
             BoxglueError: There is none: the list is open, or its batch has not ended.
             Refused: Its end was refused, in a batch.
         """
+        if self.is_open:
+            found = "lines" if self.form == "par" else "sizes"
+            raise BoxglueError(f"this {self.form} is open: read its {found} after its `with` or `end`")
         if self._ended is None:
             raise BoxglueError(f"{self!r} has no reply: typed calls did not end it")
         return self._ended.reply
@@ -197,7 +214,7 @@ class OpenList(Generic[EndT]):
 
 @public
 class OpenBox(OpenList[Packed]):
-    """The list of a box (see OpenList). After its end it has the sizes of the box in scaled points and its badness."""
+    """The list of a box (see OpenList). After its end it has the badness of the box, and its sizes in scaled points."""
     __slots__ = ()
     _KIND = Packed
 
@@ -224,7 +241,7 @@ class OpenBox(OpenList[Packed]):
 
 @public
 class OpenParagraph(OpenList[Paragraph]):
-    """The list of a paragraph (see OpenList). After its end it has what came of its breaking into lines."""
+    """The list of a paragraph (see OpenList). After its end it has the lines, the pass, the overhang and the demerits."""
     __slots__ = ()
     _KIND = Paragraph
 
@@ -235,7 +252,7 @@ class OpenParagraph(OpenList[Paragraph]):
 
     @property
     def deciding_pass(self) -> int:
-        """The pass that decided, 1 to 3; 0 of an empty paragraph."""
+        """The pass that decided, 1 to 3; 0 for an empty paragraph."""
         return self.reply.deciding_pass
 
     @property

@@ -10,7 +10,7 @@ from dataclasses import dataclass
 from fractions import Fraction
 from typing import Any
 
-from ._files import file_words, refusal_in
+from ._files import file_words, refusal_of_file
 from ._library import Data, Fonts, MarkRow, MarkSizes, PageRow, data_of, library, new_buffer
 from ._public import public
 from ._status import Status, fail
@@ -81,10 +81,11 @@ class Units:
 
 @public
 class Marks(Table[Mark]):
-    """Marks in order. Each is made when it is asked for, as a Glyph, a Rule or a Special.
+    """Marks in order. Each is made when you ask for it, as a Glyph, a Rule or a Special.
 
-    `rows` is the table itself as a memoryview, a row of nine numbers a mark, in which what a mark has not is 0: kind (a MarkKind), font, code, h, v, height, width,
-    text_size and text_start, the place of a text in the bytes of the file. `numpy.asarray(marks.rows)` has columns of these names, and copies nothing.
+    `rows` is the table itself as a memoryview, with a row of nine numbers for each mark: kind (a MarkKind), font, code, h, v, height, width, text_size, and
+    text_start, the place of a text in the bytes of the file. A number that a mark does not have is 0. `numpy.asarray(marks.rows)` has columns of these
+    names, and copies nothing.
     """
 
     def __init__(self, rows: Any, dvi: bytes) -> None:
@@ -100,7 +101,11 @@ class Marks(Table[Mark]):
         return Special(row.h, row.v, self._dvi[row.text_start:row.text_start + row.text_size])
 
     def tuples(self) -> Iterator[tuple[int, ...]]:
-        """The rows as tuples of nine numbers: quicker than marks."""
+        """Walks over the rows as tuples of nine numbers, which is quicker than over marks.
+
+        Returns:
+            An iterator.
+        """
         return struct.iter_unpack("=I6iIQ", self._rows)
 
 
@@ -114,7 +119,7 @@ class Page:
 
 @public
 class Pages(Table[Page]):
-    """The pages of a DVI file in order. Each is made when it is asked for."""
+    """The pages of a DVI file in order. Each is made when you ask for it."""
 
     def __init__(self, rows: Any, marks: Marks) -> None:
         super().__init__(rows, marks)
@@ -127,7 +132,7 @@ class Pages(Table[Page]):
 @public
 @dataclass(frozen=True, slots=True)
 class Document:
-    """What a DVI file shows: its pages, all marks of all pages, one page after the other, and the units."""
+    """The pages of a DVI file, all marks of all pages, one page after the other, and the units."""
     pages: Pages
     marks: Marks
     units: Units
@@ -135,7 +140,20 @@ class Document:
 
 @public
 def marks(dvi: Data, fonts: Fonts = ()) -> Document:
-    """The pages of a DVI file and their marks. It reads the whole file. Raises Refused, OutOfMemory or BadFontName."""
+    """Reads the pages of a DVI file and their marks: glyphs, rules and specials.
+
+    Args:
+        dvi: The bytes of the file.
+        fonts: The fonts that its pages may select: a mapping from names to the bytes of metric files, a `FontFolder`, or pairs of both.
+
+    Returns:
+        The pages, all their marks, and the units.
+
+    Raises:
+        Refused: The file is bad (BadDvi), a font is missing (NoFont), or its metric file is bad (BadTfm) or too large (DimensionTooLarge).
+        OutOfMemory: The system refused memory.
+        BadFontName: The name of a font does not have 1 to 255 bytes.
+    """
     data, sizes = data_of(dvi, "a DVI file"), MarkSizes()
     words = file_words(data, fonts)
     # A mark has at least a byte of the file, so that these rooms suffice for files of up to 16 MiB, and one call is enough.
@@ -149,6 +167,6 @@ def marks(dvi: Data, fonts: Fonts = ()) -> Document:
     if status > Status.REFUSED:
         fail(status)
     if status == Status.REFUSED:
-        raise refusal_in(ctypes.string_at(text, sizes.text))
+        raise refusal_of_file(ctypes.string_at(text, sizes.text), words)
     found = Marks(part_of(rows, 0, sizes.marks), data)
     return Document(Pages(part_of(pages, 0, sizes.pages), found), found, Units(sizes.num, sizes.den, sizes.mag))

@@ -5,6 +5,7 @@ from dataclasses import dataclass
 from typing import Any, Literal
 
 from ._dimensions import points
+from ._opened import Piece
 from ._public import public
 from ._status import Refused
 from ._tables import Table
@@ -64,7 +65,7 @@ class Ok:
 @public
 @dataclass(frozen=True, slots=True)
 class Packed:
-    """A list was packed into a box. Its badness is 0 to 10,000, or 1,000,000 where it is overfull."""
+    """A list was packed into a box. Its badness is 0 to 10,000, or 1,000,000 if it is overfull."""
     line: int
     width: int
     height: int
@@ -78,7 +79,7 @@ class Packed:
 @public
 @dataclass(frozen=True, slots=True)
 class Measured:
-    """A box was measured: an "hbox" or a "vbox", a vtop being one too; or the register is "void", and all sizes are 0."""
+    """A box was measured: an "hbox", or a "vbox", which may be a vtop. If the register is "void", all sizes are 0."""
     line: int
     kind: Literal["hbox", "vbox", "void"]
     width: int
@@ -93,7 +94,7 @@ class Measured:
 @public
 @dataclass(frozen=True, slots=True)
 class Added:
-    """Items were added to the list; of a text also how many of its characters the font has not (2^32 - 1 stands for more, too), else None."""
+    """Items were added to the list. `missing` counts the characters of a text that the font lacks, up to 2^32 - 1; it is None for other items."""
     line: int
     items: int
     missing: int | None = None
@@ -105,7 +106,7 @@ class Added:
 @public
 @dataclass(frozen=True, slots=True)
 class Paragraph:
-    """A paragraph was broken into lines: how many, the pass that decided (1 to 3), by how much they are overfull, and their demerits. An empty one has 0 four times."""
+    """A paragraph was broken into lines, by one of the passes 1 to 3. `overhang` is by how much they are overfull. An empty paragraph has 0 four times."""
     line: int
     lines: int
     deciding_pass: int
@@ -119,8 +120,7 @@ class Paragraph:
 @public
 @dataclass(frozen=True, slots=True)
 class Split:
-    """A vertical box was split: the sizes of its front, the badness of that, and the sizes of the rest, or None where nothing is left. Of a void register there is no
-    front either."""
+    """A vertical box was split. `badness` is the front's. `rest` is None if nothing is left, and `front` is None if the register was void."""
     line: int
     front: Sizes | None
     badness: int
@@ -135,7 +135,7 @@ class Split:
 @public
 @dataclass(frozen=True, slots=True)
 class Shipped:
-    """A page was shipped: the number of pages that the file has then."""
+    """A page was shipped. `pages` is the number of pages so far."""
     line: int
     pages: int
 
@@ -146,7 +146,7 @@ class Shipped:
 @public
 @dataclass(frozen=True, slots=True)
 class End:
-    """The job was ended: how many pages and how many bytes its file has."""
+    """The job was ended. Its file has so many pages and bytes."""
     pages: int
     bytes: int
 
@@ -205,21 +205,26 @@ def _answer(reply: Reply) -> str:
 
 @public
 class Replies(Table[Reply]):
-    """The replies to commands, in order. Each is made when it is asked for, and is the one class or the other: Ok, Packed, Measured, Added, Paragraph, Split,
-    Shipped, End, or the exception Refused, which is not raised here.
+    """The replies to commands, in order. Each is made when you ask for it, as an Ok, Packed, Measured, Added, Paragraph, Split, Shipped or End, or as the
+    exception Refused, which is not raised here.
 
-    `rows` is the table itself as a memoryview, a struct boxglue_reply a reply; its kinds are those of ReplyKind.
+    `rows` is the table itself as a memoryview, a struct boxglue_reply for each reply, whose kinds are numbers of ReplyKind.
     """
 
+    def __init__(self, rows: Any, piece: Piece) -> None:
+        super().__init__(rows, piece)
+        self._piece = piece
+
     def _item(self, row: Any) -> Reply:
-        return reply_of(row)
+        reply = reply_of(row)
+        return self._piece.explain(reply) if isinstance(reply, Refused) else reply
 
     @property
     def refusals(self) -> list[Refused]:
-        """The refusals among them, in order."""
-        return [_REFUSED[row.kind](row) for row in self._rows if row.kind in _REFUSED]
+        """The refusals among them, in order, each with its command."""
+        return [self._piece.explain(_REFUSED[row.kind](row)) for row in self._rows if row.kind in _REFUSED]
 
     @property
     def answers_text(self) -> str:
-        """Them as texts, a line each (docs/FORMATS.md, section 3)."""
+        """The replies as texts, a line each (docs/FORMATS.md, section 3)."""
         return "".join(f"{_answer(it)}\n" for it in self)

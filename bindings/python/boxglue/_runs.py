@@ -9,6 +9,7 @@ from typing import TypeVar
 
 from ._fonts import FontFolder, names_in_script
 from ._library import DVI_ROOM, Fonts, ReplyRow, ReplySizes, Text, given_fonts, library, new_buffer, sized, text_of
+from ._opened import Piece
 from ._public import public
 from ._replies import Replies
 from ._status import Refused, Status, fail
@@ -38,7 +39,14 @@ class _Answered:
         return self.replies.refusals
 
     def check(self: _Given) -> _Given:
-        """Returns this, or raises the first refusal."""
+        """Returns this, or raises the first refusal.
+
+        Returns:
+            This.
+
+        Raises:
+            Refused: A command, the script or the end was refused.
+        """
         if not self.accepted:
             raise self.refusals[0]
         return self
@@ -50,9 +58,9 @@ _Given = TypeVar("_Given", bound=_Answered)
 @public
 @dataclass(frozen=True)
 class Run(_Answered):
-    """A run: the replies to its commands, the last one that to its end, the bytes of the DVI file, and whether nothing was refused.
+    """A run of a script: the replies to its commands and to its end, the bytes of the DVI file, and whether everything was accepted.
 
-    There are no bytes where no page was shipped. Where the end was refused they are no whole file. A script with a bad line has one reply, and no bytes.
+    If no page was shipped, `dvi` is empty. If the end was refused, `dvi` is not a whole file. A script with a bad line has one reply, and its `dvi` is empty.
     """
     replies: Replies
     dvi: bytes = field(repr=False)
@@ -62,7 +70,7 @@ class Run(_Answered):
 @public
 @dataclass(frozen=True)
 class Answers(_Answered):
-    """The replies to the commands of a piece, or to the end of a job; and whether nothing was refused."""
+    """The replies to the commands of a piece, or to the end of a job, and whether everything was accepted."""
     replies: Replies
     accepted: bool
 
@@ -71,7 +79,16 @@ class Answers(_Answered):
 def run(script: Text, fonts: Fonts = ()) -> Run:
     """Runs a script with these fonts.
 
-    A refused command is among the replies, and `accepted` is false then; `run(..).check()` raises it. Raises OutOfMemory or BadFontName.
+    Args:
+        script: The script. A `str` is handed over as UTF-8.
+        fonts: The fonts that it may load: a mapping from names to the bytes of metric files, a `FontFolder`, or pairs of both.
+
+    Returns:
+        The replies and the DVI file. A refusal is a reply, and `run(..).check()` raises it.
+
+    Raises:
+        OutOfMemory: The system refused memory.
+        BadFontName: The name of a font does not have 1 to 255 bytes.
     """
     text, sizes = text_of(script, "a script"), ReplySizes()
     given = given_fonts(fonts.choose(names_in_script(text)) if isinstance(fonts, FontFolder) else fonts)
@@ -85,9 +102,11 @@ def run(script: Text, fonts: Fonts = ()) -> Run:
         rooms = sizes.replies, sizes.dvi
     if status not in HAS_RUN:
         fail(status)
-    return Run(replies_of(rows, sizes.replies), ctypes.string_at(dvi, sizes.dvi), status == Status.ACCEPTED)
+    piece = Piece(text)
+    piece.follow(part_of(rows, 0, sizes.replies))
+    return Run(replies_of(rows, sizes.replies, piece), ctypes.string_at(dvi, sizes.dvi), status == Status.ACCEPTED)
 
 
-def replies_of(table: ctypes.Array[ReplyRow], count: int) -> Replies:
-    """The first rows of a table."""
-    return Replies(part_of(table, 0, count))
+def replies_of(table: ctypes.Array[ReplyRow], count: int, piece: Piece) -> Replies:
+    """The first rows of a table, which are the replies to this piece."""
+    return Replies(part_of(table, 0, count), piece)

@@ -20,7 +20,7 @@ _NO_CHARACTER = re.compile(r"[^ -~]")
 
 @public
 class Glue(NamedTuple):
-    """Glue, as a value of a parameter: its width, its stretch and its shrink. Each of the two is scaled points, or an amount and an order, such as (1, "fil")."""
+    """Glue, as a value of a parameter: its width, stretch and shrink. Stretch and shrink are scaled points, or an amount and an order, such as (1, "fil")."""
     width: SupportsIndex
     plus: Stretch = 0
     minus: Stretch = 0
@@ -46,14 +46,25 @@ def quote(text: str | bytes) -> str:
     if not (found.isascii() and found.isprintable()):
         bad = _NO_CHARACTER.search(found)
         if bad:
-            raise BadCharacter(found, bad.start(), "scripts have only the characters 32 to 126")
+            raise BadCharacter(found, bad.start(), f"scripts have only the characters 32 to 126{_remedy(bad[0])}")
     return found
+
+
+def one_line(character: str) -> str:
+    """What a message adds for white space that is not a space."""
+    return '; a text is one line: send " ".join(text.split())' if character.isspace() else ""
+
+
+def _remedy(character: str) -> str:
+    """What a message adds for a character that scripts cannot have."""
+    letters = "; `text` and `paragraph` take others by encoding=boxglue.T1, with a font that has them" if character.isprintable() else ""
+    return one_line(character) or letters
 
 
 def _fail_number(given: object, least: int, most: int, what: str) -> NoReturn:
     """Raises what is wrong with a number. A float is refused even where it is whole: what computes it may be a little off elsewhere."""
     if not hasattr(given, "__index__"):
-        raise TypeError(f"{what} must be a whole number, not {given!r:.40}")
+        raise TypeError(f"{what} must be a whole number, not {given!r:.40}") from None
     raise ValueError(f"{what} must be {least:,} to {most:,}, not {given}")
 
 
@@ -85,16 +96,11 @@ def dimension(given: SupportsIndex) -> int:
 
 def length(given: SupportsIndex) -> str:
     """A dimension that fits, as scripts have it."""
-    if type(given) is int and -1_073_741_823 <= given <= 1_073_741_823:
-        return f"{given}sp"
     return f"{dimension(given)}sp"
 
 
 def sizes_of_rule(width: SupportsIndex | None, height: SupportsIndex | None, depth: SupportsIndex | None) -> str:
     """The sizes of a rule. None is a running size."""
-    if type(width) is int and type(height) is int and type(depth) is int:
-        if -1_073_741_823 <= width <= 1_073_741_823 and -1_073_741_823 <= height <= 1_073_741_823 and -1_073_741_823 <= depth <= 1_073_741_823:
-            return f"{width}sp {height}sp {depth}sp"
     return " ".join(["*" if it is None else length(it) for it in (width, height, depth)])
 
 
@@ -105,9 +111,11 @@ def register(given: SupportsIndex) -> int:
     return number(given, 0, REGISTERS - 1, "a register")
 
 
-def _stretch(given: Stretch) -> str:
+def _stretch(given: Stretch, what: str) -> str:
     """A stretch or a shrink."""
     if not isinstance(given, tuple):
+        if not hasattr(given, "__index__"):
+            raise TypeError(f'{what} must be scaled points, or an amount and an order such as (1, "fil"), not {given!r:.40}')
         return f"{dimension(given)}sp"
     amount, order = given
     if order not in ORDERS:
@@ -119,9 +127,9 @@ def glue(width: SupportsIndex, plus: Stretch, minus: Stretch) -> str:
     """Glue, as after `glue` and `set`. What is 0 is left out."""
     text = f"{dimension(width)}sp"
     if plus:
-        text += f" plus {_stretch(plus)}"
+        text += f" plus {_stretch(plus, 'a stretch')}"
     if minus:
-        text += f" minus {_stretch(minus)}"
+        text += f" minus {_stretch(minus, 'a shrink')}"
     return text
 
 

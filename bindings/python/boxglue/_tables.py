@@ -7,8 +7,8 @@ from abc import abstractmethod
 from collections.abc import Iterator, Sequence
 from typing import Any, TypeVar, overload
 
-# A table of this size or more is mapped, so that rows which a call does not write take no memory.
-_MAPPED = 1 << 18
+# A table of this size or more is mapped, so that rows which a call does not write take no memory. Memory of the heap is quicker, which the kernel need not clear.
+_MAPPED = 1 << 20
 Item = TypeVar("Item")
 _Same = TypeVar("_Same", bound="Table[Any]")
 

@@ -14,7 +14,7 @@ from unittest import mock
 import boxglue
 from boxglue import Added, BadCharacter, Glue, Measured, NeedsRecovery, Ok, Packed, Paragraph, Refused, Shipped, Sizes, Split, pt
 from boxglue import _metrics
-from boxglue._metrics import Step
+from boxglue import FontStep as Step
 
 from .samples import RULE, plain
 from .test_replies import WIDTH
@@ -206,6 +206,30 @@ class Fonts(unittest.TestCase):
                 it.use(good)
         self.assertEqual((good.slot, bad.slot, job.load("plain", at=1).slot), (0, 1, 1))
 
+    def test_font_of_another_job(self):
+        """It would set the texts in the font that this job has in the slot."""
+        fonts = {**plain(), "other": plain()["plain"]}
+        job, second = job_of(self, fonts), job_of(self, fonts)
+        strange, same = second.load("other"), second.load("plain", at=pt(5))
+        self.assertRaisesRegex(boxglue.BoxglueError, "is not a font of this job: load it in this job$", job.use, strange)
+        own = job.load("plain")
+        self.assertRaisesRegex(boxglue.BoxglueError, r"^LoadedFont\(0, 'other', None\) is not a font", job.use, strange)
+        with self.assertRaises(boxglue.BoxglueError), job.batch() as it:
+            it.use(strange)
+        self.assertEqual(job.load("plain", at=pt(5)).slot, 1)
+        self.assertEqual([job.use(it) for it in (own, 0, same)], [Ok(3), Ok(4), Ok(5)])  # the last is the same font in both
+
+    def test_font_that_is_loaded_before_a_batch_is_entered(self):
+        job = job_of(self, plain())
+        batch = job.batch()
+        font = job.load("plain")
+        with self.assertRaises(KeyError), batch:
+            raise KeyError
+        self.assertEqual(job.use(font), Ok(2))
+
+    def test_name_in_place_of_a_font(self):
+        self.assertRaisesRegex(TypeError, r"job\.use\(job\.load\('cmr10'\)\)$", job_of(self).use, "cmr10")
+
     def test_no_slot(self):
         job = job_of(self, plain())
         with job.batch() as it:
@@ -338,7 +362,7 @@ class Batches(unittest.TestCase):
 
     def test_one_call(self):
         job = job_of(self)
-        with mock.patch.object(job, "commands", wraps=job.commands) as commands:
+        with mock.patch.object(job, "_commands", wraps=job._commands) as commands:
             with job.batch() as it:
                 for _ in range(100):
                     with it.hbox(into=0):
@@ -419,7 +443,7 @@ class Batches(unittest.TestCase):
     def test_memory(self):
         job = job_of(self)
         with self.assertRaises(boxglue.OutOfMemory):
-            with mock.patch.object(job, "commands", side_effect=boxglue.OutOfMemory), job.batch() as it:
+            with mock.patch.object(job, "_commands", side_effect=boxglue.OutOfMemory), job.batch() as it:
                 box = it.hbox(into=0)
         self.assertFalse(box.is_open)
         self.assertEqual(job.void(0), Ok(1))
@@ -467,7 +491,7 @@ class Encodings(unittest.TestCase):
         self.assertEqual((found.has(97), found.has(98), found.has(99)), (True, True, False))
         self.assertEqual((found.step(97, 98), found.step(98, 97)), (Step(False, -65_536 * 5 // 8), None))
         self.assertIsNone(_metrics.metrics_of(metrics[:8], None))
-        self.assertRaises(boxglue.OutOfRange, _metrics.metrics_of, metrics, -1)
+        self.assertRaises(ValueError, _metrics.metrics_of, metrics, -1)
         with boxglue.Job({"two": metrics}) as job:
             job.use(job.load("two"))
             with job.hbox(into=0) as box:
@@ -546,6 +570,25 @@ class Encodings(unittest.TestCase):
             for character, code in encoding.items():
                 self.assertEqual(others.get(character) or next(it for it in (glyphs[code],) if names[it] == character), glyphs[code], character)
             self.assertEqual({*range(256)} - {*encoding.values()} - {at for at, it in enumerate(glyphs) if it == ".notdef"}, {"7t.enc": {32}, "ec.enc": {23, 24, 127}}[file])
+
+    @unittest.skipUnless(shutil.which("kpsewhich"), "there is no TeX")
+    def test_tables_of_symbols(self):
+        """Against the encodings of Latin Modern, and the lists of Adobe and TeX."""
+        names = {}
+        for file, form in (("glyphlist.txt", r"(?m)^(\w+);([0-9A-F ]+)"), ("texglyphlist.txt", r"(?m)^(\w+);([0-9A-F ]+)"),
+                           ("glyphtounicode.tex", r"\\pdfglyphtounicode\{(\S+)\}\{([0-9A-F ]+)\}")):
+            for name, codes in re.findall(form, self.texmf(file)):
+                names.setdefault(name, "".join(chr(int(it, 16)) for it in codes.split()))
+        # What the lists lack, and letters and signs of which Unicode has two.
+        names |= {"mho": "℧", "ohm": "\u03a9", "permyriad": "‱", "baht": "฿", "servicemark": "℠", "copyleft": "🄯", "published": "℗", "one.superior": "¹",
+                  "two.superior": "²", "three.superior": "³", "circlecopyrt": "◯", "mapsto": "↦", "bardbl": "‖", "Delta": "\u0394", "Omega": "\u03a9",
+                  "phi": "ϕ", "phi1": "φ", "o": "\u03bf"}
+        for file, encoding, others in (("lm-ts1.enc", boxglue.TS1, {}), ("lm-mathsy.enc", boxglue.OMS, {"openbullet": "∘"}), ("lm-mathit.enc", boxglue.OML, {"mu": "\u03bc"})):
+            text = re.sub(r"%.*", "", self.texmf(file))
+            glyphs = re.findall(r"/(\S+)", text[text.index("["):text.index("]")])
+            for character, code in encoding.items():
+                name = glyphs[code]
+                self.assertEqual(others.get(name) or names.get(name) or names[name.removesuffix(".ts1")], character, name)
 
     def texmf(self, name):
         """The text of a file of TeX Live."""

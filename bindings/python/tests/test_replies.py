@@ -69,7 +69,7 @@ class EachKind(unittest.TestCase):
 
     def test_refusals(self):
         self.assertEqual([(it.line, it.name, it.cause) for it in self.ran.refusals], [(30, "VoidBox", None), (31, "BadTfm", "TooShort")])
-        self.assertRaisesRegex(Refused, "^line 30: refused 21 VoidBox$", self.ran.check)
+        self.assertRaisesRegex(Refused, "^line 30: refused 21 VoidBox: 'ship 9'$", self.ran.check)
 
 
 class Numbers(unittest.TestCase):

@@ -30,7 +30,7 @@ class Runs(unittest.TestCase):
         self.assertEqual(len(ran.dvi), 116)
         with self.assertRaises(boxglue.Refused) as caught:
             ran.check()
-        self.assertEqual((caught.exception.name, str(caught.exception)), ("VoidBox", "line 1: refused 21 VoidBox"))
+        self.assertEqual((caught.exception.name, str(caught.exception)), ("VoidBox", "line 1: refused 21 VoidBox: 'ship 3'"))
 
     def test_bad_script(self):
         refused, = boxglue.run("hbox into 0\nkern x\n").refusals

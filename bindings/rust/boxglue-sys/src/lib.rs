@@ -1,10 +1,10 @@
-//! The calls of `include/boxglue.h`, whose comments say what each takes, writes and returns. The crate `boxglue` has them as safe functions.
+//! The calls of `include/boxglue.h`, whose comments say what each takes, writes and returns. The crate `boxglue` wraps them in safe functions.
 //!
-//! No pointer is null here, also where its length is 0.
+//! No pointer may be null here, even if its length is 0.
 #![no_std]
 #![allow(non_camel_case_types)]
 
-/// False, since a constant cannot ask the library that runs.
+/// Always false, since a constant cannot ask the library that runs.
 #[deprecated(since = "1.2.0", note = "ask the library that runs, by `boxglue_proved`")]
 pub const IS_PROVED: bool = false;
 
@@ -229,7 +229,7 @@ pub struct boxglue_font_step {
     pub ligature: u32,
 }
 
-/// A handle goes to one call at a time, and is never copied.
+/// A handle of a job. Give it to one call at a time, and do not copy it.
 #[repr(C)]
 #[derive(Debug)]
 pub struct boxglue_job {

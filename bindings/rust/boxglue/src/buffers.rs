@@ -1,4 +1,4 @@
-//! The buffers of calls, which grow where they are too small.
+//! The buffers of calls, which grow if they are too small.
 
 use crate::{Error, Font};
 use boxglue_sys as sys;
@@ -10,7 +10,7 @@ pub(crate) const FONT_ROOM: usize = 64;
 /// The most bytes that the name of a font in a DVI file has.
 pub(crate) const NAME_ROOM: usize = 255;
 
-/// The room for the file of a script, which is rarely longer than two times the script; where it is, the script is run again.
+/// The buffer for the file of a script, which is rarely longer than two times the script; if it is, the script is run again.
 pub(crate) fn dvi_room(script: &[u8]) -> usize {
     DVI_ROOM.max(2 * script.len())
 }
@@ -39,7 +39,7 @@ pub(crate) fn text(bytes: Vec<u8>) -> String {
     String::from_utf8(bytes).expect("a text of the library is ASCII")
 }
 
-/// The status and the output of a call with one buffer, which is made again where the buffer is too small.
+/// The status and the output of a call with one buffer, which is made again if the buffer is too small.
 pub(crate) fn one_output(mut room: usize, mut call: impl FnMut(*mut u8, usize, &mut usize) -> u32) -> Result<(u32, Vec<u8>), Error> {
     loop {
         let (mut made, mut size) = (buffer(room, 0)?, 0);

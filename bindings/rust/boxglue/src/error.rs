@@ -1,6 +1,6 @@
 //! What stops a call.
 
-use crate::{Answer, Cause, RefusalKind};
+use crate::{Answer, Cause, ListOpening, RefusalKind};
 use boxglue_sys as sys;
 use std::fmt;
 
@@ -8,16 +8,18 @@ use std::fmt;
 #[derive(Clone, Debug, PartialEq, Eq, Hash)]
 #[non_exhaustive]
 pub struct Refusal {
-    /// The line of the command that was refused; none where no command was.
+    /// The line of the command that was refused, if a command was.
     pub line: Option<u64>,
     /// Its number (docs/REFUSALS.md), such as 4.
     pub number: u32,
     /// Its name, such as "NoFont".
     pub name: String,
-    /// What follows the name, such as "74 Trailer" after "BadDvi".
+    /// The text after the name, such as "74 Trailer" after "BadDvi".
     pub detail: String,
-    /// The command, where a typed call sent it, such as "use 7".
+    /// The command, such as "use 7", or the bad line of a script; none in a refusal of a text of answers.
     pub command: Option<String>,
+    /// After WrongMode, VoidBox and ListsOpen the lists that are open, the innermost one last. A refusal of a text of answers has none.
+    pub open_lists: Vec<ListOpening>,
 }
 
 impl Refusal {
@@ -27,15 +29,17 @@ impl Refusal {
         let mut words = rest.strip_prefix("refused ")?.splitn(3, ' ');
         let number = words.next()?.parse().ok()?;
         let name = words.next()?.to_string();
-        Some(Refusal { line: line.parse().ok(), number, name, detail: words.next().unwrap_or_default().to_string(), command: None })
+        Some(Refusal { line: line.parse().ok(), number, name, detail: words.next().unwrap_or_default().to_string(), command: None, open_lists: Vec::new() })
     }
 
-    /// Its kind, by its number.
+    /// Returns its kind, by its number.
     pub fn kind(&self) -> RefusalKind {
         RefusalKind::of(self.number)
     }
 
-    /// What is wrong with a line of a script, a metric file or a DVI file; none where the refusal names no cause.
+    /// Returns the rule that a line of a script, a metric file or a DVI file breaks, if the refusal names one.
+    ///
+    /// # Examples
     ///
     /// ```
     /// use boxglue::{Cause, RefusalKind};
@@ -49,12 +53,14 @@ impl Refusal {
         self.detail.rsplit(' ').next().filter(|it| !it.is_empty()).map(Cause::of)
     }
 
-    /// The number of the bad line for which a script or a piece was refused as a whole.
+    /// Returns the number of the bad line, if a script or a piece was refused as a whole.
     pub fn bad_line(&self) -> Option<u64> {
         self.where_in("BadScript")
     }
 
-    /// The place in a DVI file, in bytes, at which it breaks a rule.
+    /// Returns the place in a DVI file, in bytes, at which it breaks a rule.
+    ///
+    /// # Examples
     ///
     /// ```
     /// let refused = boxglue::fonts(b"no DVI file").unwrap_err();
@@ -91,16 +97,19 @@ impl fmt::Display for Refusal {
             write!(out, "line {line}: ")?;
         }
         self.write_said(out)?;
-        match &self.command {
-            Some(command) => write!(out, ": {command:?}"),
-            None => Ok(()),
+        if let Some(command) = &self.command {
+            write!(out, ": {command:?}")?;
         }
+        for (at, it) in self.open_lists.iter().enumerate() {
+            write!(out, "{}{} (line {})", if at == 0 { "; open lists: " } else { ", " }, it.form, it.line)?;
+        }
+        Ok(())
     }
 }
 
 impl std::error::Error for Refusal {}
 
-/// Why a DVI file is refused. What a fault does not have is `None`.
+/// Why a DVI file is refused. A field that a fault does not have is `None`.
 #[derive(Clone, Debug, PartialEq, Eq, Hash)]
 #[non_exhaustive]
 pub struct Fault {
@@ -134,19 +143,19 @@ impl Fault {
     }
 }
 
-/// What stops a call. A refused command of a script does not: it is among the answers.
+/// An error of a call. A refused command of a script is not one: it is among the answers.
 #[derive(Clone, Debug, PartialEq, Eq)]
 #[non_exhaustive]
 pub enum Error {
     /// A DVI file was refused, or an answer that was checked is a refusal.
     Refused(Refusal),
-    /// Memory was refused, and nothing was done.
+    /// The system refused memory, and nothing was done.
     OutOfMemory,
-    /// The name of a font has not 1 to 255 bytes.
+    /// The name of a font does not have 1 to 255 bytes.
     BadFontName,
-    /// The DVI file is good and has no page of this number.
+    /// The DVI file is good and does not have this page.
     NoSuchPage,
-    /// A number is out of its range: that of a page, of pixels an inch, of a bitmap's pixels, or what a command takes. Nothing was sent.
+    /// A page, a number of pixels or an argument of a command is out of its range. Nothing was sent.
     OutOfRange,
     /// A text has a byte at this place that scripts do not have. Nothing was sent.
     BadByte {
@@ -159,7 +168,7 @@ pub enum Error {
     ListOpen,
     /// The library gave another answer than the command has, which this version never does.
     OtherAnswer(Answer),
-    /// The commands were run, or the job was finished, and memory was refused for the text of the answers.
+    /// The commands were run, or the job was finished, and the system refused memory for the text of the answers.
     AnswersLost,
     /// A status that this version does not know.
     Other(u32),
@@ -189,11 +198,14 @@ impl fmt::Display for Error {
         match self {
             Error::Refused(refusal) => refusal.fmt(out),
             Error::OutOfMemory => out.write_str("memory was refused, and nothing was done"),
-            Error::BadFontName => out.write_str("the name of a font has not 1 to 255 bytes"),
+            Error::BadFontName => out.write_str("the name of a font does not have 1 to 255 bytes"),
             Error::NoSuchPage => out.write_str("the DVI file has no page of this number"),
             Error::OutOfRange => out.write_str("a number is out of its range"),
-            Error::BadByte { place } => write!(out, "a text has a byte at {place} that scripts do not have"),
-            Error::BadDimension => out.write_str("a text is not a dimension"),
+            Error::BadByte { place } => {
+                write!(out, "the byte at {place} is not allowed: a text is one line of bytes 32 to 126, so send other characters by `char`; ")?;
+                out.write_str("the name of a font has letters, digits, -, _ and .")
+            }
+            Error::BadDimension => out.write_str("a text is not a dimension: write a number and a unit, such as 1.5pt, without em or ex"),
             Error::ListOpen => out.write_str("a list was dropped without its end, and is open"),
             Error::OtherAnswer(answer) => write!(out, "the answer is {answer}"),
             Error::AnswersLost => out.write_str("memory was refused for the text of the answers"),

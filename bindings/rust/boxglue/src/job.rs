@@ -1,6 +1,7 @@
 //! A job that is kept between calls.
 
 use crate::buffers::{answers_room, buffer, given, one_output, one_text, DVI_ROOM};
+use crate::opened::OpenLists;
 use crate::replies::lines_of;
 use crate::values::Line;
 use crate::{Answer, Error, Font, Refusal, Reply};
@@ -11,17 +12,17 @@ use boxglue_sys as sys;
 pub struct Answers {
     /// A reply to each command, in order; or the one refusal of a piece with a bad line.
     pub replies: Vec<Reply>,
-    /// Whether nothing was refused.
+    /// Whether everything was accepted.
     pub accepted: bool,
 }
 
 impl Answers {
-    /// The refusals among the replies, in order.
+    /// Iterates over the refusals among the replies, in order.
     pub fn refusals(&self) -> impl Iterator<Item = &Refusal> + '_ {
         self.replies.iter().filter_map(|it| it.answer.as_ref().err())
     }
 
-    /// These replies, or the first refusal as an error.
+    /// Returns these replies, or the first refusal as an error.
     ///
     /// # Errors
     ///
@@ -37,17 +38,17 @@ impl Answers {
 pub struct TextAnswers {
     /// The lines.
     pub text: String,
-    /// Whether nothing was refused.
+    /// Whether everything was accepted.
     pub accepted: bool,
 }
 
 impl TextAnswers {
-    /// The refusals among the answers, in order.
+    /// Iterates over the refusals among the answers, in order.
     pub fn refusals(&self) -> impl Iterator<Item = Refusal> + '_ {
         Refusal::all(&self.text)
     }
 
-    /// These answers, or the first refusal as an error.
+    /// Returns these answers, or the first refusal as an error.
     ///
     /// # Errors
     ///
@@ -79,7 +80,7 @@ impl TextAnswers {
 /// }
 /// ```
 ///
-/// A job goes from one thread to another, and two threads do not share one:
+/// A job may move from one thread to another, but two threads cannot share it:
 ///
 /// ```
 /// let mut job = boxglue::Job::new(&[])?;
@@ -99,6 +100,8 @@ pub struct Job {
     /// How many lists typed calls opened, and the number of the innermost one that is not dropped.
     pub(crate) open: usize,
     pub(crate) held: usize,
+    /// The lists that are open, whoever opened them.
+    lists: OpenLists,
 }
 
 // SAFETY: the library allows that a handle moves to another thread between two calls where a lock orders them, and a move of Rust orders as much.
@@ -106,7 +109,7 @@ pub struct Job {
 unsafe impl Send for Job {}
 
 impl Job {
-    /// A job with these fonts, which it copies.
+    /// Makes a job with these fonts, which it copies.
     ///
     /// # Errors
     ///
@@ -115,7 +118,7 @@ impl Job {
         let (mut handle, fonts) = (sys::boxglue_job { at: std::ptr::null_mut() }, given(fonts));
         // SAFETY: the handle has no job, and the pointer is that of a slice with its length.
         match unsafe { sys::boxglue_job_new(&mut handle, fonts.as_ptr(), fonts.len()) } {
-            sys::BOXGLUE_ACCEPTED => Ok(Job { handle, line: Line::default(), open: 0, held: 0 }),
+            sys::BOXGLUE_ACCEPTED => Ok(Job { handle, line: Line::default(), open: 0, held: 0, lists: OpenLists::default() }),
             other => Err(Error::of(other)),
         }
     }
@@ -136,7 +139,9 @@ impl Job {
     ///
     /// # Errors
     ///
-    /// [`Error::OutOfMemory`], and then nothing was run.
+    /// [`Error::OutOfMemory`]: nothing was run.
+    ///
+    /// # Examples
     ///
     /// ```
     /// use boxglue::{Answer, BoxSizes, Job};
@@ -155,19 +160,23 @@ impl Job {
         if !has_run(status) {
             return Err(Error::of(status));
         }
-        Ok(Answers { replies: rows[..count].iter().map(Reply::of).collect(), accepted: status == sys::BOXGLUE_ACCEPTED })
+        let mut replies: Vec<Reply> = rows[..count].iter().map(Reply::of).collect();
+        self.lists.follow(script, &mut replies);
+        Ok(Answers { replies, accepted: status == sys::BOXGLUE_ACCEPTED })
     }
 
     /// Runs a piece of a script as [`Job::commands`] does, and returns the answers as a text.
     ///
     /// # Errors
     ///
-    /// [`Error::OutOfMemory`], and then nothing was run; [`Error::AnswersLost`].
+    /// [`Error::OutOfMemory`]: nothing was run. [`Error::AnswersLost`]: the commands were run.
     pub fn commands_text(&mut self, script: impl AsRef<[u8]>) -> Result<TextAnswers, Error> {
         let script = script.as_ref();
         // SAFETY: the pointer is that of a slice with its length.
         let status = unsafe { sys::boxglue_job_commands(&mut self.handle, script.as_ptr(), script.len()) };
-        self.answers(status, lines_of(script))
+        let answers = self.answers(status, lines_of(script))?;
+        self.lists.follow_text(script, &answers.text);
+        Ok(answers)
     }
 
     /// Sends the line, which is one command, and returns its answer.
@@ -179,41 +188,54 @@ impl Job {
         if !has_run(status) {
             return Err(Error::of(status));
         }
-        Reply::of(&rows[0]).answer.map_err(|it| Error::Refused(Refusal { command: Some(self.line.shown()), ..it }))
+        let mut reply = Reply::of(&rows[0]);
+        self.lists.follow(script, std::slice::from_mut(&mut reply));
+        reply.answer.map_err(|it| Error::Refused(Refusal { command: Some(self.line.shown()), ..it }))
     }
 
-    /// Ends the job, and returns the reply to its end. Take the last bytes then. A refusal is the reply, as ListsOpen, after which the job goes on.
+    /// Ends the job, and returns the reply to its end. Take the last bytes afterwards.
+    ///
+    /// A refusal is a reply, too. After ListsOpen and OutOfMemory the job goes on, and you may end it later.
     ///
     /// # Errors
     ///
-    /// This version returns none: a refusal is a reply.
+    /// This version returns no error.
     pub fn finish(&mut self) -> Result<Reply, Error> {
         let mut row = sys::boxglue_reply::default();
         // SAFETY: the handle has a job.
         let status = unsafe { sys::boxglue_job_end(&mut self.handle, &mut row) };
-        if has_run(status) {
-            Ok(Reply::of(&row))
-        } else {
-            Err(Error::of(status))
+        if !has_run(status) {
+            return Err(Error::of(status));
         }
+        let mut reply = Reply::of(&row);
+        if let Err(refusal) = &mut reply.answer {
+            self.lists.explain(refusal);
+        }
+        Ok(reply)
     }
 
     /// Ends the job as [`Job::finish`] does, and returns the line of its end.
     ///
     /// # Errors
     ///
-    /// [`Error::AnswersLost`], and then the next call shows whether the job has ended: its answer is JobOver.
+    /// [`Error::AnswersLost`]: the next call shows whether the job has ended, by the answer JobOver.
     pub fn finish_text(&mut self) -> Result<TextAnswers, Error> {
         // SAFETY: the handle has a job.
         let status = unsafe { sys::boxglue_job_finish(&mut self.handle) };
         self.answers(status, 1)
     }
 
-    /// The bytes of the DVI file that went out since the last call: pages as they were shipped, and the end of the file after [`Job::finish`].
+    /// Lists the box in a register into these buffers. Returns the status.
+    pub(crate) fn items(&mut self, register: u16, rows: &mut [sys::boxglue_item], texts: &mut [u8], sizes: &mut sys::boxglue_item_sizes) -> u32 {
+        // SAFETY: each pointer is that of a slice with its length, and they do not overlap.
+        unsafe { sys::boxglue_job_items(&mut self.handle, u32::from(register), rows.as_mut_ptr(), rows.len(), texts.as_mut_ptr(), texts.len(), sizes) }
+    }
+
+    /// Takes the bytes of the DVI file that went out since the last call: pages as they were shipped, and the end of the file after [`Job::finish`].
     ///
     /// # Errors
     ///
-    /// [`Error::OutOfMemory`], and then nothing is lost.
+    /// [`Error::OutOfMemory`]: nothing is lost.
     pub fn take(&mut self) -> Result<Vec<u8>, Error> {
         // SAFETY: the buffer is a slice.
         one_output(DVI_ROOM, |at, room, size| unsafe { sys::boxglue_job_take(&mut self.handle, at, room, size) }).map(|(_, bytes)| bytes)

@@ -1,4 +1,4 @@
-//! Boxglue from Rust: scripts are run, and the pages of DVI files are read, listed and painted.
+//! Sets documents with TeX's boxes, glue and paragraphs, and reads, lists and paints the pages of DVI files.
 //!
 //! ```
 //! use boxglue::{Error, Job, Sp, Target};
@@ -13,29 +13,50 @@
 //! # Ok::<(), Error>(())
 //! ```
 //!
-//! A [`Job`] has a call for each command, and a [`List`] that it opens those of its mode. [`run`] runs a script, and [`run_text`] gives its answers as texts; what gives
-//! texts is called so everywhere. [`marks`] gives the pages of a DVI file with their marks.
+//! | task | call |
+//! |---|---|
+//! | begin and end a job | [`Job::new`], [`Job::finish`] |
+//! | get the DVI file | [`Job::take`] |
+//! | choose a font | [`Job::load`], [`Job::use_font`] |
+//! | open a box or a paragraph | [`Job::hbox`], [`Job::vbox`], [`VboxList::par`](List::par) |
+//! | set a parameter | [`Job::set`] |
+//! | add text, space, a rule or a box | [`List::text`], [`List::glue`], [`HboxList::rule`](List::rule), [`List::put`] |
+//! | end a list, and learn its size | [`List::end`] |
+//! | cut a column | [`Job::vsplit`] |
+//! | make a page | [`Job::ship`] |
+//! | look into a box | [`Job::inspect`] |
+//! | run a script | [`run`], [`Job::commands`] |
+//! | read a DVI file or a font | [`marks`], [`metrics`] |
 //!
-//! Scripts and answers are those of docs/FORMATS.md of boxglue, and the commands those of docs/COMMANDS.md. A font has the name by which scripts and DVI
-//! files mean it, and the bytes of its metric file (TFM); of several with one name the first counts. Calls may run in several threads at once.
-#![warn(missing_docs)]
+//! Each command of docs/COMMANDS.md of boxglue is a call of [`Job`] or of the [`List`] that a job opens, whose type has the commands of its mode. Calls
+//! whose names end with `_text` return answers as texts, in the form of docs/FORMATS.md.
+//!
+//! A [`Font`] has the name that scripts and DVI files use for it, and the bytes of its metric file (TFM). If several have one name, the first counts.
+//! Calls may run in several threads at once.
+#![warn(missing_docs, clippy::missing_errors_doc, clippy::missing_panics_doc)]
 
+mod boxes;
 mod buffers;
 mod error;
 mod job;
 mod lists;
 mod marks;
+mod metrics;
 mod names;
+mod opened;
 mod replies;
 mod sp;
 mod texts;
 mod values;
 
+pub use boxes::{BoxTree, BoxView, GlueSetting, Item, Order, Place, Running};
 pub use error::{Error, Fault, Refusal};
 pub use job::{Answers, Job, TextAnswers};
 pub use lists::{EndRefused, HboxList, Horizontal, InHbox, InParagraph, InVbox, List, Mode, Packed, Paragraph, ParagraphList, Shaped, Split, VboxList};
 pub use marks::{marks, Document, Mark, Page, Units};
+pub use metrics::{metrics, FontMetrics, GlyphMetrics, Step};
 pub use names::{Cause, RefusalKind};
+pub use opened::{ListForm, ListOpening};
 pub use replies::{run, Answer, BoxKind, BoxSizes, Reply, Run};
 pub use sp::Sp;
 pub use values::{quote, Glue, Parameter, Stretch, Target};
@@ -44,11 +65,11 @@ use boxglue_sys as sys;
 use buffers::{answers_room, buffer, dvi_room, given, one_text, text, DVI_ROOM, FONT_ROOM, NAME_ROOM, TEXT_ROOM};
 use replies::lines_of;
 
-/// False, since a constant cannot ask the library that runs.
+/// Always false, since a constant cannot ask the library that runs.
 #[deprecated(since = "1.2.0", note = "ask the library that runs, by `is_proved`")]
 pub const IS_PROVED: bool = false;
 
-/// A font: the name by which scripts and DVI files mean it, 1 to 255 bytes, and the bytes of its metric file (TFM).
+/// A font: the name that scripts and DVI files use for it, 1 to 255 bytes, and the bytes of its metric file (TFM).
 #[derive(Clone, Copy, Debug)]
 pub struct Font<'a> {
     /// The name.
@@ -58,7 +79,7 @@ pub struct Font<'a> {
 }
 
 impl<'a> Font<'a> {
-    /// A font of this name.
+    /// Makes a font of this name.
     pub fn new(name: &'a (impl AsRef<[u8]> + ?Sized), metrics: &'a [u8]) -> Font<'a> {
         Font { name: name.as_ref(), metrics }
     }
@@ -69,19 +90,19 @@ impl<'a> Font<'a> {
 pub struct TextRun {
     /// The answers to the commands, a line each.
     pub answers: String,
-    /// The bytes of the DVI file; none where no page was shipped. Where the end was refused they are no whole file.
+    /// The bytes of the DVI file; none if no page was shipped. If the end was refused, they are not a whole file.
     pub dvi: Vec<u8>,
-    /// Whether nothing was refused.
+    /// Whether everything was accepted.
     pub accepted: bool,
 }
 
 impl TextRun {
-    /// The refusals among the answers, in order.
+    /// Iterates over the refusals among the answers, in order.
     pub fn refusals(&self) -> impl Iterator<Item = Refusal> + '_ {
         Refusal::all(&self.answers)
     }
 
-    /// This run, or the first refusal as an error.
+    /// Returns this run, or the first refusal as an error.
     ///
     /// # Errors
     ///
@@ -95,11 +116,15 @@ impl TextRun {
     }
 }
 
-/// Runs a script with these fonts as [`run`] does, with its answers as texts. A refused command is among the answers, and [`TextRun::check`] makes it an error.
+/// Runs a script with these fonts as [`run`] does, and returns its answers as texts.
+///
+/// A refused command is among the answers, and [`TextRun::check`] makes it an error.
 ///
 /// # Errors
 ///
 /// [`Error::OutOfMemory`] and [`Error::BadFontName`].
+///
+/// # Examples
 ///
 /// ```
 /// let ran = boxglue::run_text("ship 3\n", &[])?;
@@ -137,11 +162,13 @@ pub fn run_text(script: impl AsRef<[u8]>, fonts: &[Font<'_>]) -> Result<TextRun,
     }
 }
 
-/// The listing of the marks of all pages of a DVI file.
+/// Lists the marks of all pages of a DVI file.
 ///
 /// # Errors
 ///
 /// [`Error::Refused`], [`Error::OutOfMemory`] and [`Error::BadFontName`].
+///
+/// # Examples
 ///
 /// ```
 /// let ran = boxglue::run("hbox into 0\nrule 1pt 1pt 0pt\nend\nship 0\n", &[])?;
@@ -154,11 +181,13 @@ pub fn listing(dvi: &[u8], fonts: &[Font<'_>]) -> Result<String, Error> {
     one_text(DVI_ROOM, |at, room, size| unsafe { sys::boxglue_list(dvi.as_ptr(), dvi.len(), fonts.as_ptr(), fonts.len(), at, room, size) })
 }
 
-/// Checks a DVI file as [`listing`] does: why it is refused, or `None` for a file that is accepted.
+/// Checks a DVI file as [`listing`] does, and returns why it is refused, or `None` if it is accepted.
 ///
 /// # Errors
 ///
 /// [`Error::OutOfMemory`] and [`Error::BadFontName`].
+///
+/// # Examples
 ///
 /// ```
 /// let fault = boxglue::check(b"no DVI file", &[])?.unwrap();
@@ -189,11 +218,13 @@ pub struct PaintOptions {
     pub height: u32,
 }
 
-/// The rules of a page of a DVI file as a bitmap, in plain PBM.
+/// Paints the rules of a page of a DVI file as a bitmap, in plain PBM. It paints no glyphs.
 ///
 /// # Errors
 ///
 /// [`Error::Refused`], [`Error::NoSuchPage`], [`Error::OutOfRange`], [`Error::OutOfMemory`] and [`Error::BadFontName`].
+///
+/// # Examples
 ///
 /// ```
 /// use boxglue::{paint, Error, PaintOptions};
@@ -228,11 +259,15 @@ pub struct DviFont {
     pub check_sum: u32,
 }
 
-/// The fonts that a DVI file defines after its pages, in the order of the file: their names are those that the other calls need. No page is read.
+/// Reads the fonts that a DVI file defines after its pages, in the order of the file. Their names are those that the other calls need.
+///
+/// The call reads no page.
 ///
 /// # Errors
 ///
 /// [`Error::Refused`] and [`Error::OutOfMemory`].
+///
+/// # Examples
 ///
 /// ```
 /// let ran = boxglue::run("hbox into 0\nrule 1pt 1pt 0pt\nend\nship 0\n", &[])?;
@@ -262,7 +297,9 @@ pub fn fonts(dvi: &[u8]) -> Result<Vec<DviFont>, Error> {
     }
 }
 
-/// A dimension in scaled points as scripts and answers have it in points: with the fewest digits that are read as the same number.
+/// Writes a dimension of scaled points in points, with the fewest digits that are read as the same number.
+///
+/// # Examples
 ///
 /// ```
 /// assert_eq!((boxglue::points(98_304), boxglue::points(-1)), ("1.5pt".to_string(), "-0.00002pt".to_string()));
@@ -283,7 +320,9 @@ pub fn points(dimension: i32) -> String {
     }
 }
 
-/// The version of the library, such as "1.2.0".
+/// Returns the version of the library, such as "1.2.0".
+///
+/// # Examples
 ///
 /// ```
 /// assert_eq!(boxglue::version().split('.').next(), Some("1"));
@@ -294,7 +333,11 @@ pub fn version() -> String {
     format!("{}.{}.{}", number / 10_000, number / 100 % 100, number % 100)
 }
 
-/// Whether the library that runs is proved: it says so itself. One that was built without proofs has run-time checks, and a fault of its own ends the program.
+/// Tells whether the library that runs is proved: it says so itself.
+///
+/// A library that was built without proofs has run-time checks, and a fault of its own ends the program.
+///
+/// # Examples
 ///
 /// ```
 /// println!("boxglue {}, {}", boxglue::version(), if boxglue::is_proved() { "proved" } else { "unproved" });

@@ -28,7 +28,7 @@ pub struct Paragraph {
     pub demerits: i64,
 }
 
-/// What came of a text.
+/// The result of a text.
 #[derive(Clone, Copy, Debug, PartialEq, Eq, Hash)]
 #[non_exhaustive]
 pub struct Shaped {
@@ -60,9 +60,9 @@ macro_rules! answer {
     };
 }
 
-/// A mode of lists: what is being made of one.
+/// The mode of a list: the kind of box or paragraph that it becomes.
 pub trait Mode: sealed::Sealed {
-    /// What the end of the list gives.
+    /// The result of the end of the list.
     type End;
 
     /// What an answer to `end` gives.
@@ -124,11 +124,11 @@ pub type VboxList<'j> = List<'j, InVbox>;
 /// The list of a paragraph.
 pub type ParagraphList<'j> = List<'j, InParagraph>;
 
-/// An open list, whose type has the commands of its mode. It borrows its job, so nothing else goes into another list while it is open; what needs no list is
-/// reached by [`List::job`].
+/// An open list, whose type has the commands of its mode. It borrows its job, so nothing goes into another list while it is open; [`List::job`] has the
+/// calls that need no list.
 ///
-/// [`List::end`] ends it. If it is dropped without that, as by `?`, it stays open: the job says so ([`Job::is_list_open`]), and each command that needs another
-/// list is [`Error::ListOpen`], until [`Job::end_open_list`] or [`Job::recover`].
+/// [`List::end`] ends it. A list that is dropped without its end, for example by `?`, stays open: [`Job::is_list_open`] says so, and each command that
+/// needs another list returns [`Error::ListOpen`], until [`Job::end_open_list`] or [`Job::recover`].
 ///
 /// ```
 /// use boxglue::{Error, Job, Sp, Target};
@@ -144,7 +144,17 @@ pub type ParagraphList<'j> = List<'j, InParagraph>;
 /// # Ok::<(), Error>(())
 /// ```
 ///
-/// A paragraph is no item of a horizontal list, and a text none of a vertical one:
+/// The list around it is borrowed, too:
+///
+/// ```compile_fail
+/// let mut job = boxglue::Job::new(&[]).unwrap();
+/// let mut page = job.vbox(0, boxglue::Target::Natural).unwrap();
+/// let list = page.hbox(boxglue::Target::Natural).unwrap();
+/// page.penalty(0).unwrap();
+/// list.end().unwrap();
+/// ```
+///
+/// A horizontal list has no paragraphs, and a vertical list no texts:
 ///
 /// ```compile_fail
 /// let mut job = boxglue::Job::new(&[]).unwrap();
@@ -217,16 +227,16 @@ impl Job {
         Ok(List { job: self, level, around, mode: PhantomData })
     }
 
-    /// Whether the innermost list was dropped without [`List::end`].
+    /// Tells whether the innermost list was dropped without [`List::end`].
     pub fn is_list_open(&self) -> bool {
         self.open > self.held
     }
 
-    /// Ends the innermost list if it was dropped without [`List::end`], and returns what its end gives: [`Answer::Packed`] or [`Answer::Paragraph`].
+    /// Ends the innermost list if it was dropped without [`List::end`], and returns [`Answer::Packed`] or [`Answer::Paragraph`].
     ///
     /// # Errors
     ///
-    /// [`Error::Refused`], and the list is open as before. [`Error::ListOpen`] where the innermost list was not dropped, or there is none.
+    /// [`Error::Refused`]: the list is open as before. [`Error::ListOpen`]: the innermost list was not dropped, or there is none.
     pub fn end_open_list(&mut self) -> Result<Answer, Error> {
         if !self.is_list_open() {
             return Err(Error::ListOpen);
@@ -237,7 +247,7 @@ impl Job {
         Ok(answer)
     }
 
-    /// Says that a script ended the lists that were dropped.
+    /// Tells the job that a script ended the lists that were dropped.
     pub fn recover(&mut self) {
         self.open = self.held;
     }
@@ -246,7 +256,7 @@ impl Job {
     ///
     /// # Errors
     ///
-    /// [`Error::Refused`] as NoFont, BadTfm or SlotTaken; [`Error::BadFontName`], [`Error::BadByte`] and [`Error::OutOfRange`] before anything is sent.
+    /// [`Error::Refused`] as NoFont, BadTfm, DimensionTooLarge or SlotTaken; [`Error::BadFontName`], [`Error::BadByte`] or [`Error::OutOfRange`].
     pub fn load(&mut self, slot: u8, name: &str, at: Option<Sp>) -> Result<(), Error> {
         self.line.begin("font").number(i32::from(slot)).font(name, at);
         self.send().map(drop)
@@ -292,17 +302,34 @@ impl Job {
         self.opened()
     }
 
-    /// Splits the vbox of a register, which keeps the rest; the front goes into another one. `None` is said of a void register.
+    /// Splits the vbox of a register, which keeps the rest; the front goes into another register. A void register gives `None`.
     ///
     /// # Errors
     ///
     /// [`Error::Refused`] as WrongKind, InfiniteShrink or DimensionTooLarge; [`Error::OutOfRange`].
+    ///
+    /// # Examples
+    ///
+    /// ```
+    /// use boxglue::{Glue, Job, Sp, Target};
+    ///
+    /// let mut job = Job::new(&[])?;
+    /// let mut column = job.vbox(0, Target::Natural)?;
+    /// column.rule(Some(Sp::points(10)), Sp::points(5), Sp::ZERO)?;
+    /// column.glue(Glue::from(Sp::points(2)))?;
+    /// column.rule(Some(Sp::points(10)), Sp::points(5), Sp::ZERO)?;
+    /// column.end()?;
+    /// let split = job.vsplit(0, Sp::points(5), 1)?.expect("register 0 has a box");
+    /// assert_eq!(split.front.height, Sp::points(5).0);
+    /// assert_eq!(split.rest.map(|it| it.height), Some(Sp::points(10).0)); // splittopskip puts its first baseline at 10pt
+    /// # Ok::<(), boxglue::Error>(())
+    /// ```
     pub fn vsplit(&mut self, register: u16, to: Sp, into: u16) -> Result<Option<Split>, Error> {
         self.line.begin("vsplit").register(register).word("to").dimension(to).word("into").register(into);
         answer!(self.send()?, Answer::Split { front, badness, rest } => Some(Split { front, badness, rest }), Answer::SplitVoid => None)
     }
 
-    /// The kind and the sizes of the box of a register; `None` of a void one.
+    /// Measures the box of a register: its kind and its sizes. A void register gives `None`.
     ///
     /// # Errors
     ///
@@ -327,6 +354,14 @@ impl Job {
     /// # Errors
     ///
     /// [`Error::OutOfRange`].
+    ///
+    /// # Examples
+    ///
+    /// ```
+    /// let mut job = boxglue::Job::new(&[])?;
+    /// job.set(boxglue::Parameter::Hsize("12cm".parse()?))?;
+    /// # Ok::<(), boxglue::Error>(())
+    /// ```
     pub fn set(&mut self, parameter: Parameter) -> Result<(), Error> {
         self.line.begin("set").parameter(parameter);
         self.send().map(drop)
@@ -349,16 +384,27 @@ impl Job {
     ///
     /// # Errors
     ///
-    /// [`Error::Refused`] as VoidBox, HugePage and others; [`Error::OutOfRange`].
+    /// [`Error::Refused`] as VoidBox, HugePage, TooManyPages, TooMuchShipped, TooMuchSpecial or Device; [`Error::OutOfRange`].
+    ///
+    /// # Examples
+    ///
+    /// ```
+    /// let mut job = boxglue::Job::new(&[])?;
+    /// let mut page = job.hbox(0, boxglue::Target::Natural)?;
+    /// page.end()?;
+    /// assert_eq!(job.ship(0)?, 1);
+    /// assert!(job.ship(0).is_err()); // the register is void
+    /// # Ok::<(), boxglue::Error>(())
+    /// ```
     pub fn ship(&mut self, register: u16) -> Result<u64, Error> {
         self.line.begin("ship").register(register);
         answer!(self.send()?, Answer::Shipped { pages } => pages)
     }
 }
 
-/// The items that lists of all modes have. Each call is [`Error::ListOpen`] where a list in this one was dropped without its end.
+/// The items that lists of all modes have. Each call returns [`Error::ListOpen`] if a list in this one was dropped without its end.
 impl<'j, M: Mode> List<'j, M> {
-    /// The job, for what needs no list. A list that it opens is in this one.
+    /// Returns the job, for calls that need no list. A list that it opens is in this one.
     pub fn job(&mut self) -> &mut Job {
         self.job
     }
@@ -383,11 +429,13 @@ impl<'j, M: Mode> List<'j, M> {
         answer!(self.send()?, Answer::Added { items } => items)
     }
 
-    /// Ends the list, and returns what comes of it.
+    /// Ends the list, and returns a [`Packed`] box or a [`Paragraph`].
     ///
     /// # Errors
     ///
-    /// [`EndRefused`], which has the list and the error. `?` makes the error of it, and then the list stays open.
+    /// [`EndRefused`], which has the list and the error. `?` turns it into the error, and then the list stays open. A `Box<dyn Error>` cannot borrow the
+    /// job, so write `.map_err(boxglue::Error::from)?` there.
+    #[allow(clippy::result_large_err)] // a refused end gives the list back, with its reason
     pub fn end(self) -> Result<M::End, EndRefused<'j, M>> {
         self.job.line.begin("end");
         let mut list = self;
@@ -437,7 +485,7 @@ impl<'j, M: Mode> List<'j, M> {
     ///
     /// # Errors
     ///
-    /// [`Error::OutOfRange`]; [`Error::Refused`] as ListTooLong, which each call that adds items may answer.
+    /// [`Error::OutOfRange`]; [`Error::Refused`] as ListTooLong, as each call that adds items may return it.
     pub fn kern(&mut self, amount: Sp) -> Result<(), Error> {
         self.job.line.begin("kern").dimension(amount);
         self.send().map(drop)
@@ -463,7 +511,7 @@ impl<'j, M: Mode> List<'j, M> {
         self.send().map(drop)
     }
 
-    /// Adds a special, whose text is for the file's reader.
+    /// Adds a special, a text for the program that reads the file.
     ///
     /// # Errors
     ///
@@ -473,7 +521,9 @@ impl<'j, M: Mode> List<'j, M> {
         self.send().map(drop)
     }
 
-    /// Adds the box of a register, which is void then, moved down in a horizontal list and to the right in a vertical one. Returns how many items were added.
+    /// Adds the box of a register, which becomes void, and returns how many items were added.
+    ///
+    /// The shift moves the box down in a horizontal list, and to the right in a vertical one.
     ///
     /// # Errors
     ///
@@ -493,7 +543,7 @@ impl<'j, M: Mode> List<'j, M> {
         self.added()
     }
 
-    /// Moves the last item into a register if it is a box; else the register becomes void.
+    /// Moves the last item into a register if it is a box; otherwise makes the register void.
     ///
     /// # Errors
     ///
@@ -531,7 +581,7 @@ impl<M: Horizontal> List<'_, M> {
         self.shaped()
     }
 
-    /// Adds a rule. A height or a depth of `None` is that of the box around the rule.
+    /// Adds a rule. A height or a depth of `None` comes from the box around the rule.
     ///
     /// # Errors
     ///
@@ -541,7 +591,7 @@ impl<M: Horizontal> List<'_, M> {
         self.send().map(drop)
     }
 
-    /// Adds the items of the hbox of a register, which is void then. Returns how many.
+    /// Adds the items of the hbox of a register, which becomes void, and returns how many.
     ///
     /// # Errors
     ///
@@ -551,7 +601,7 @@ impl<M: Horizontal> List<'_, M> {
         self.added()
     }
 
-    /// Adds copies of the items of the hbox of a register. Returns how many.
+    /// Adds copies of the items of the hbox of a register, and returns how many.
     ///
     /// # Errors
     ///
@@ -569,13 +619,30 @@ impl List<'_, InVbox> {
     /// # Errors
     ///
     /// [`Error::Refused`] as TooDeep.
+    ///
+    /// # Examples
+    ///
+    /// ```
+    /// use boxglue::{Glue, Job, Parameter, Sp, Stretch, Target};
+    ///
+    /// let mut job = Job::new(&[])?;
+    /// job.set(Parameter::Hsize(Sp::points(40)))?;
+    /// let mut page = job.vbox(0, Target::Natural)?;
+    /// let mut paragraph = page.par()?;
+    /// for width in [10, 10, 10, 25, 30] {
+    ///     paragraph.rule(Sp::points(width), Some(Sp::points(1)), Some(Sp::ZERO))?;
+    ///     paragraph.glue(Glue { width: Sp::points(5), plus: Stretch::Finite(Sp::points(15)), ..Glue::default() })?;
+    /// }
+    /// assert_eq!(paragraph.end()?.lines, 3);
+    /// # Ok::<(), boxglue::Error>(())
+    /// ```
     pub fn par(&mut self) -> Result<ParagraphList<'_>, Error> {
         self.is_innermost()?;
         self.job.line.begin("par");
         self.job.opened()
     }
 
-    /// Adds a rule. A width of `None` is that of the box around the rule.
+    /// Adds a rule. A width of `None` comes from the box around the rule.
     ///
     /// # Errors
     ///
@@ -585,7 +652,7 @@ impl List<'_, InVbox> {
         self.send().map(drop)
     }
 
-    /// Adds the items of the vbox of a register, which is void then. Returns how many.
+    /// Adds the items of the vbox of a register, which becomes void, and returns how many.
     ///
     /// # Errors
     ///
@@ -595,7 +662,7 @@ impl List<'_, InVbox> {
         self.added()
     }
 
-    /// Adds copies of the items of the vbox of a register. Returns how many.
+    /// Adds copies of the items of the vbox of a register, and returns how many.
     ///
     /// # Errors
     ///

@@ -22,7 +22,7 @@ pub struct Units {
 pub enum Mark<'a> {
     /// A character.
     Glyph {
-        /// The number of its font, as that of a [`DviFont`](crate::DviFont).
+        /// The number of its font, as in [`DviFont`](crate::DviFont).
         font: i32,
         /// The character.
         code: i32,
@@ -66,12 +66,12 @@ pub struct Page<'m> {
 }
 
 impl<'m> Page<'m> {
-    /// Its ten counts.
+    /// Returns its ten counts.
     pub fn counts(&self) -> &'m [i32; 10] {
         &self.page.counts
     }
 
-    /// Its marks, in the order of the file.
+    /// Iterates over its marks, in the order of the file.
     pub fn marks(&self) -> impl ExactSizeIterator<Item = Mark<'m>> + DoubleEndedIterator + Clone {
         let dvi = self.dvi;
         self.marks.iter().map(move |it| mark_of(it, dvi))
@@ -89,7 +89,7 @@ fn mark_of<'m>(row: &sys::boxglue_mark, dvi: &'m [u8]) -> Mark<'m> {
     }
 }
 
-/// What a DVI file shows: its pages and their marks. The texts of specials stay in the bytes of the file.
+/// The pages of a DVI file and their marks. The texts of specials stay in the bytes of the file.
 #[derive(Clone)]
 pub struct Document<'a> {
     dvi: &'a [u8],
@@ -107,27 +107,29 @@ impl fmt::Debug for Document<'_> {
 }
 
 impl Document<'_> {
-    /// The pages, in the order of the file.
+    /// Iterates over the pages, in the order of the file.
     pub fn pages(&self) -> impl ExactSizeIterator<Item = Page<'_>> + DoubleEndedIterator + Clone {
         self.pages.iter().map(|page| Page { page, marks: &self.marks[page.first_mark..][..page.marks], dvi: self.dvi })
     }
 
-    /// The marks of all pages, one page after the other.
+    /// Iterates over the marks of all pages, one page after the other.
     pub fn marks(&self) -> impl ExactSizeIterator<Item = Mark<'_>> + DoubleEndedIterator + Clone {
         self.marks.iter().map(|it| mark_of(it, self.dvi))
     }
 
-    /// The units of the file.
+    /// Returns the units of the file.
     pub fn units(&self) -> Units {
         self.units
     }
 }
 
-/// The marks of all pages of a DVI file with these fonts.
+/// Reads the marks of all pages of a DVI file with these fonts.
 ///
 /// # Errors
 ///
 /// [`Error::Refused`], [`Error::OutOfMemory`] and [`Error::BadFontName`].
+///
+/// # Examples
 ///
 /// ```
 /// use boxglue::{marks, run, Mark};

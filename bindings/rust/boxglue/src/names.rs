@@ -1,4 +1,5 @@
-//! What refusals are called.
+//! What refusals are called. Later versions have more of them, so no enum here is exhaustive.
+#![deny(clippy::exhaustive_enums)]
 
 use boxglue_sys as sys;
 use std::fmt::{Display, Formatter, Result};
@@ -61,7 +62,7 @@ numbered! {
         ListTooLong = sys::BOXGLUE_REFUSAL_LIST_TOO_LONG,
         /// Lists or boxes would be too deep.
         TooDeep = sys::BOXGLUE_REFUSAL_TOO_DEEP,
-        /// Glue shrinks without end.
+        /// Glue shrinks by an infinite order.
         InfiniteShrink = sys::BOXGLUE_REFUSAL_INFINITE_SHRINK,
         /// A paragraph has too many places for breaks.
         TooManyBreaks = sys::BOXGLUE_REFUSAL_TOO_MANY_BREAKS,

@@ -1,6 +1,7 @@
 //! Replies to commands, as numbers.
 
 use crate::buffers::{buffer, dvi_room, given};
+use crate::opened::OpenLists;
 use crate::{Error, Font, Refusal};
 use boxglue_sys as sys;
 
@@ -85,7 +86,7 @@ pub enum BoxKind {
     Vertical,
 }
 
-/// What a command that was done answers (docs/COMMANDS.md, section 3), or the end of a job. Dimensions are in scaled points.
+/// The answer of a command that was done (docs/COMMANDS.md, section 3), or of the end of a job. Dimensions are in scaled points.
 #[derive(Clone, Debug, PartialEq, Eq, Hash)]
 #[non_exhaustive]
 pub enum Answer {
@@ -198,30 +199,37 @@ fn refusal(row: &sys::boxglue_reply) -> Refusal {
     let text = |name: Option<&str>, number: u32| name.map_or_else(|| number.to_string(), str::to_string);
     let (number, name) = (row.refusal, text(refusal_name(row.refusal), row.refusal));
     if row.kind == sys::BOXGLUE_REPLY_BAD_LINE {
-        return Refusal { line: None, number, name, detail: format!("{} {}", row.line, text(line_cause(row.cause), row.cause)), command: None };
+        return Refusal {
+            line: None,
+            number,
+            name,
+            detail: format!("{} {}", row.line, text(line_cause(row.cause), row.cause)),
+            command: None,
+            open_lists: Vec::new(),
+        };
     }
     let detail = if row.cause == 0 { String::new() } else { text(tfm_cause(row.cause), row.cause) };
-    Refusal { line: (row.line > 0).then_some(row.line), number, name, detail, command: None }
+    Refusal { line: (row.line > 0).then_some(row.line), number, name, detail, command: None, open_lists: Vec::new() }
 }
 
 /// A run of a script.
 #[derive(Clone, Debug, PartialEq, Eq)]
 pub struct Run {
-    /// A reply to each command, in order, and that to the end; or the one refusal of a script with a bad line.
+    /// A reply to each command, in order, and then to the end; or the one refusal of a script with a bad line.
     pub replies: Vec<Reply>,
-    /// The bytes of the DVI file; none where no page was shipped. Where the end was refused they are no whole file.
+    /// The bytes of the DVI file; none if no page was shipped. If the end was refused, they are not a whole file.
     pub dvi: Vec<u8>,
-    /// Whether nothing was refused.
+    /// Whether everything was accepted.
     pub accepted: bool,
 }
 
 impl Run {
-    /// The refusals among the replies, in order.
+    /// Iterates over the refusals among the replies, in order.
     pub fn refusals(&self) -> impl Iterator<Item = &Refusal> + '_ {
         self.replies.iter().filter_map(|it| it.answer.as_ref().err())
     }
 
-    /// This run, or the first refusal as an error.
+    /// Returns this run, or the first refusal as an error.
     ///
     /// # Errors
     ///
@@ -237,6 +245,8 @@ impl Run {
 /// # Errors
 ///
 /// [`Error::OutOfMemory`] and [`Error::BadFontName`].
+///
+/// # Examples
 ///
 /// ```
 /// use boxglue::{run, Answer, BoxSizes};
@@ -272,7 +282,8 @@ pub fn run(script: impl AsRef<[u8]>, fonts: &[Font<'_>]) -> Result<Run, Error> {
             sys::BOXGLUE_BUFFER_TOO_SMALL => {}
             sys::BOXGLUE_ACCEPTED | sys::BOXGLUE_REFUSED | sys::BOXGLUE_REFUSED_MEMORY => {
                 dvi.truncate(sizes.dvi);
-                let replies = rows[..sizes.replies].iter().map(Reply::of).collect();
+                let mut replies: Vec<Reply> = rows[..sizes.replies].iter().map(Reply::of).collect();
+                OpenLists::default().follow(script, &mut replies);
                 return Ok(Run { replies, dvi, accepted: status == sys::BOXGLUE_ACCEPTED });
             }
             other => return Err(Error::of(other)),

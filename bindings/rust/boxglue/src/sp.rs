@@ -8,8 +8,11 @@ use std::str::FromStr;
 /// A dimension in scaled points (sp), of which 65,536 are a point.
 ///
 /// A text is read exactly as a script reads it (docs/FORMATS.md, section 1), and [`Display`] writes the fewest digits that are read as the same number.
-/// One whose absolute value is above [`Sp::MAX`] does not *fit*: calls refuse it as [`Error::OutOfRange`] before anything is sent. Sums and differences are those
-/// of `i32`.
+/// A dimension *fits* if its absolute value is at most [`Sp::MAX`]. Calls refuse others as [`Error::OutOfRange`] before they send anything.
+///
+/// # Panics
+///
+/// Sums and differences overflow as those of `i32` do: they panic in a debug build.
 ///
 /// ```
 /// use boxglue::{Error, Sp};
@@ -31,22 +34,22 @@ const POINT: u64 = 65_536;
 const DIGITS: usize = 17;
 
 impl Sp {
-    /// No length.
+    /// The length 0.
     pub const ZERO: Sp = Sp(0);
     /// The greatest dimension that fits.
     pub const MAX: Sp = Sp((1 << 30) - 1);
 
-    /// Whole points.
+    /// Makes a dimension of whole points.
     ///
     /// # Panics
     ///
-    /// If they do not fit: there are 16,384 or more of them, or as many below 0.
+    /// Panics if they do not fit: 16,384 or more, or -16,384 or less.
     pub const fn points(points: i32) -> Sp {
         assert!(-16_384 < points && points < 16_384, "a dimension that does not fit");
         Sp(points * 65_536)
     }
 
-    /// Whether the dimension fits.
+    /// Tells whether the dimension fits.
     pub const fn fits(self) -> bool {
         -Sp::MAX.0 <= self.0 && self.0 <= Sp::MAX.0
     }

@@ -10,11 +10,13 @@ const LARGEST_FONT: i32 = (1 << 27) - 1;
 const MOST_NAME: usize = 255;
 const MOST_FIRST_LINES: u8 = 32;
 
-/// Tests whether a script can have a text, in a line of `text` or `special`: it has the bytes 32 to 126. Scripts have no escapes, so the text stays as it is.
+/// Tests whether a script can have a text in a line of `text` or `special`, and returns it unchanged: all its bytes are 32 to 126.
 ///
 /// # Errors
 ///
 /// [`Error::BadByte`], with the place of the first other byte.
+///
+/// # Examples
 ///
 /// ```
 /// use boxglue::{quote, Error};

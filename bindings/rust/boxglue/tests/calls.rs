@@ -1,5 +1,5 @@
 //! The calls, on pages of one rule and on inputs that are refused.
-use boxglue::{check, fonts, listing, run, run_text, Cause, Error, Font, Job, RefusalKind};
+use boxglue::{check, fonts, listing, run, run_text, Cause, Error, Font, Job, ListForm, Refusal, RefusalKind, Sp, Target};
 
 const RULE: &str = "hbox into 0\nrule 1pt 1pt 0pt\nend\nship 0\n";
 
@@ -47,14 +47,14 @@ fn checks_of_files() {
 fn refused_commands() {
     let ran = run("ship 3\nend\n", &[]).unwrap();
     let found: Vec<_> = ran.refusals().map(|it| it.to_string()).collect();
-    assert_eq!(found, ["line 1: refused 21 VoidBox", "line 2: refused 7 NoOpenList"]);
-    assert_eq!(ran.check().unwrap_err().to_string(), "line 1: refused 21 VoidBox");
+    assert_eq!(found, ["line 1: refused 21 VoidBox: \"ship 3\"", "line 2: refused 7 NoOpenList: \"end\""]);
+    assert_eq!(ran.check().unwrap_err().to_string(), "line 1: refused 21 VoidBox: \"ship 3\"");
 }
 
 #[test]
 fn a_bad_script() {
     let error = run("kern 12px\n", &[]).unwrap().check().unwrap_err();
-    assert_eq!(error.to_string(), "refused 2 BadScript 1 Dimension");
+    assert_eq!(error.to_string(), "refused 2 BadScript 1 Dimension: \"kern 12px\"");
 }
 
 #[test]
@@ -105,4 +105,48 @@ fn a_job_moves_between_threads() {
         .unwrap();
     }
     assert_eq!(job.finish_text().unwrap().text, "end: pages 1 bytes 116\n");
+}
+
+/// The form and the line of each list that is open at a refusal.
+fn lists_of(refusal: &Refusal) -> Vec<(ListForm, u64)> {
+    refusal.open_lists.iter().map(|it| (it.form, it.line)).collect()
+}
+
+#[test]
+fn commands_and_open_lists_of_refusals() {
+    let script = "% a comment\n\nvbox into 0\n  hbox \nrule * 1pt 1pt\nend\nunhbox 9\nhbox\npar\nfont 0 x\nend\nvbox  to 1pt\r\npar\nrule * 1pt 1pt\n";
+    let ran = run(script, &[]).unwrap();
+    let found: Vec<_> = ran.refusals().map(|it| (it.line, it.command.as_deref(), lists_of(it))).collect();
+    let (vbox, par) = ((ListForm::Vbox, 3), (ListForm::Par, 13));
+    let wanted = [
+        (Some(5), Some("rule * 1pt 1pt"), vec![vbox, (ListForm::Hbox, 4)]),
+        (Some(7), Some("unhbox 9"), vec![vbox]),
+        (Some(9), Some("par"), vec![vbox, (ListForm::Hbox, 8)]),
+        (Some(10), Some("font 0 x"), vec![]),
+        (Some(14), Some("rule * 1pt 1pt"), vec![vbox, (ListForm::Vbox, 12), par]),
+        (None, None, vec![vbox, (ListForm::Vbox, 12), par]),
+    ];
+    assert_eq!(found, wanted);
+    assert_eq!(ran.refusals().nth(1).unwrap().to_string(), "line 7: refused 8 WrongMode: \"unhbox 9\"; open lists: vbox (line 3)");
+    let bad = run("kern 1pt\n kern 12px \n", &[]).unwrap();
+    assert_eq!(bad.refusals().next().unwrap().command.as_deref(), Some("kern 12px"));
+}
+
+#[test]
+fn open_lists_of_a_job() {
+    let mut job = Job::new(&[]).unwrap();
+    job.commands("% a\nvbox into 3\r\n").unwrap().check().unwrap();
+    assert!(!job.commands("hbox\nfoo\n").unwrap().accepted);
+    job.commands_text("vtop\nend\nvtop\nend").unwrap().check().unwrap();
+    let mut list = job.hbox(4, Target::Natural).unwrap();
+    assert_eq!(list.kern(Sp(1)), Ok(()));
+    list.end().unwrap();
+    job.commands_text("hbox\n").unwrap().check().unwrap();
+    let wrong = job.commands("unvbox 9\n").unwrap();
+    let refusal = wrong.refusals().next().unwrap();
+    assert_eq!((refusal.line, lists_of(refusal)), (Some(11), vec![(ListForm::Vbox, 2), (ListForm::Hbox, 10)]));
+    let end = job.finish().unwrap().answer.unwrap_err();
+    assert_eq!(lists_of(&end), lists_of(refusal));
+    job.commands("end\nend\n").unwrap().check().unwrap();
+    assert!(job.finish().unwrap().answer.is_ok());
 }

@@ -146,6 +146,28 @@ fn refusals_have_their_command() {
     assert_eq!(kind(job.ship(9).unwrap_err()), RefusalKind::VoidBox);
 }
 
+/// A void register is often that of a box whose list is still open.
+#[test]
+fn an_end_that_is_forgotten() {
+    let mut job = job();
+    let mut list = job.vbox(0, Target::Natural).unwrap();
+    let refused = list.job().ship(0).unwrap_err();
+    assert_eq!(refused.to_string(), "line 2: refused 21 VoidBox: \"ship 0\"; open lists: vbox (line 1)");
+    list.end().unwrap();
+    assert_eq!((job.ship(0), job.ship(0).unwrap_err().to_string()), (Ok(1), "line 5: refused 21 VoidBox: \"ship 0\"".into()));
+}
+
+/// Each text says what to do in its place, and is right for texts and for names.
+#[test]
+fn texts_of_errors() {
+    let bad = "the byte at 3 is not allowed: a text is one line of bytes 32 to 126, so send other characters by `char`; the name of a font has \
+        letters, digits, -, _ and .";
+    assert_eq!((quote("caf\u{e9}").unwrap_err().to_string(), job().load(0, "cmr 10", None).unwrap_err().to_string()), (bad.into(), bad.into()));
+    let unit = "a text is not a dimension: write a number and a unit, such as 1.5pt, without em or ex";
+    assert_eq!("1em".parse::<Sp>().unwrap_err().to_string(), unit);
+    assert_eq!("1.5pt".parse(), Ok(Sp(98_304)));
+}
+
 /// A function that leaves its lists by `?`.
 fn left(job: &mut Job) -> Result<(), Error> {
     let mut page = job.vbox(0, Target::Natural)?;
