@@ -1,0 +1,384 @@
+"""include/boxglue.h: the functions, structs, statuses and the version that it declares are those of the exports, and each function that has a pointer with a size has
+a call that takes a null pointer where the size is 0, and a script at any address. What bindings/rust and bindings/python declare is what the header does.
+tests/interface.tsv lists by version what a program can see, so a call that is added to a released version raises its number.
+Only texts are compared: names, numbers, the order and the width of parameters and fields. No program is built, and Python loads no library."""
+import glob
+import hashlib
+import json
+import os
+import re
+import shutil
+import sys
+import tempfile
+from functools import partial
+
+from common.files import read
+from common.running import finished
+from tools import version as tools_version
+
+TITLE = "include/boxglue.h declares what boxglue_c exports"
+TRIES = False
+HEADER = "include/boxglue.h"
+EXPORTS = "crates/boxglue_c/src/lib.rt"
+CALLS = "crates/boxglue_calls/src"
+JOBS = f"{CALLS}/jobs"
+ITEMS = "crates/box_items/src"
+COUNTS = "crates/scaled_core/src/counts.rt"
+REFUSALS = "crates/boxglue_program/src/refusals.rt"
+STATUSES_OF_PYTHON = "bindings/python/boxglue/_status.py"
+REPLIES_OF_PYTHON = "bindings/python/boxglue/_replies.py"
+RUST = "bindings/rust/boxglue-sys/src/lib.rs"
+CALLS_OF_C = "#ifndef BOXGLUE_NO_INLINE"
+# The calls, structs and numbers of the header, each with the version that added it. A version that CHANGELOG.md dates is released, and has a row with the
+# digest of its rows. A row that is gone goes with a first number. One struct got fields before that was tested, as the header and CHANGELOG.md say.
+INTERFACE, DIGEST, GONE = "tests/interface.tsv", "sha256 ", "gone "
+CHANGED = ("1.2.0", "struct boxglue_dvi_font { int32_t number; int32_t size; size_t name_start; size_t name_size; };")
+RELEASED = r"(?m)^## (\d+\.\d+\.\d+), \d+ \w+ \d{4}$"
+TYPES = {"usize": "size_t", "": "void", "*mut u8": "void *", **{f"{it[0]}{it[1:]}": f"{'u' * (it[0] == 'u')}int{it[1:]}_t" for it in "u8 u32 u64 i32 i64".split()}}
+TYPES |= {it: f"struct boxglue_{kind}" for it, kind in zip("JobHandle DviPage DviMark ReplyRow BoxItem".split(), "job page mark reply item".split())}
+NAMES = {"box_sizes": "box"}  # what Rust does not take as a name
+
+
+def declared(root):
+    """The text of the header without its comments, each run of white space as one space."""
+    return " ".join(re.sub(r"/\*.*?\*/", " ", read(f"{root}/{HEADER}"), flags=re.S).split())
+
+
+def c_type(name):
+    """What C calls a type of Rattle."""
+    plain = name.replace("<'_>", "")
+    return TYPES.get(plain) or "struct boxglue_" + re.sub(r"(?<!^)(?=[A-Z])", "_", plain).lower()
+
+
+def slice_of(name, item, mutable):
+    """The pointer and the length that C passes for a slice. A length is named after one item: `fonts` and `font_count`."""
+    kind = c_type(item)
+    one = re.sub("ies$|s$", lambda end: "y" if end[0] == "ies" else "", name) if kind.startswith("struct") else name
+    suffix = "room" if mutable else "size" if item == "u8" else "count"
+    return [f"{'' if mutable else 'const '}{kind} *{name}", f"size_t {one}_{suffix}"]
+
+
+def c_fields(name, kind):
+    """What C writes for a parameter or a field. Nothing is passed for the allocator."""
+    if kind == "Global":
+        return []
+    array = re.fullmatch(r"\[(\w+); (\d+)\]", kind)
+    if array:
+        return [f"{c_type(array[1])} {name}[{array[2]}]"]
+    borrowed = re.fullmatch(r"&(?:'a )?(mut )?(?:\[(.*)\]|(.*))", kind)
+    if not borrowed:
+        return [f"{c_type(kind)} {NAMES.get(name, name)}".replace("* ", "*")]
+    mutable, item, one = borrowed.groups()
+    return slice_of(name, item, mutable) if item else [f"{'' if mutable else 'const '}{c_type(one)} *{name}"]
+
+
+def c_list(text):
+    """What C writes for parameters or fields of Rattle, in order."""
+    pairs = re.findall(r"(\w+): ([^,]+?)\s*(?:,|$)", text.strip())
+    return [it for name, kind in pairs for it in c_fields(name, kind)]
+
+
+def exports(root):
+    """Each exported function as C declares it."""
+    for name, parameters, result in re.findall(r'pub extern "C" fn (\w+)\(([^)]*)\)(?: -> (\w+))?', read(f"{root}/{EXPORTS}")):
+        yield f"{c_type(result)} {name}({', '.join(c_list(parameters)) or 'void'});"
+
+
+def functions_of(text):
+    """The functions that are declared before the calls for C."""
+    return re.findall(r"\w+ boxglue_\w+\([^)]*\);", text.partition(CALLS_OF_C)[0])
+
+
+def functions(root):
+    """What is wrong with the functions."""
+    found = functions_of(declared(root))
+    wanted = list(exports(root))
+    return None if wanted and found == wanted else f"the header declares {found}, and the exports are {wanted}"
+
+
+def address_call(kind, name, size):
+    """What gives an address for a pointer of a type that may be null where its size is 0."""
+    plain = kind.removeprefix("const ").removeprefix("struct boxglue_")
+    many = {"uint8_t": "bytes" if plain != kind else "room"}.get(plain) or re.sub(r"ys$", "ies", f"{plain}s")
+    return f"boxglue_{many}_at({name}, {size})"
+
+
+def words_of(parameters):
+    """The words with which a call passes its parameters on."""
+    pairs = [re.fullmatch(r"(.*?) ?\*?(\w+)", it).groups() for it in parameters.split(", ")]
+    following = [name for _, name in pairs[1:]] + [""]
+    return [address_call(kind, name, size) if re.search(r"_(size|count|room)$", size) else name for (kind, name), size in zip(pairs, following)]
+
+
+def null_calls(root):
+    """What is wrong with the calls that take null pointers."""
+    before, _, after = declared(root).partition(CALLS_OF_C)
+    wanted = []
+    for name, parameters in re.findall(r"uint32_t (boxglue_\w+)\(([^)]*)\);", before):
+        passed = ", ".join(words_of(parameters))
+        if "_at(" in passed:
+            taken = parameters.replace("const uint8_t *script", "const void *script")
+            wanted.append((name, f"static inline uint32_t {name}_or_null({taken}) {{ return {name}({passed}); }}"))
+    missing = [call for name, call in wanted if call not in after or f"#define {name} {name}_or_null " not in f"{after} "]
+    return f"the header has not {missing}" if missing or not wanted else None
+
+
+def structs(root):
+    """What is wrong with the structs."""
+    sources = "".join(read(f"{root}/{CALLS}/{it}.rt") for it in ("runs", "given", "font_table", "mark_table", "faults", "font_rows"))
+    sources += "".join(read(f"{root}/{JOBS}/{it}.rt") for it in ("handle", "rows", "whole"))
+    sources += "".join(read(f"{root}/{ITEMS}/{it}.rt") for it in ("place", "row", "writing"))
+    counts = re.search(r"const COUNTS: usize = (\d+);", read(f"{root}/{COUNTS}"))[1]
+    wanted = {}
+    for name, fields in re.findall(r"#\[repr\(C\)\]\s+(?:#\[derive\([^)]*\)\]\s+)?pub struct (\w+)(?:<'a>)? \{(.*?)\n\}", sources, flags=re.S):
+        plain = re.sub(r"///.*|(pub )?ghost .*", "", fields).replace("pub ", "").replace("COUNTS", counts)
+        wanted[c_type(name)] = c_list(plain)
+    found = {name: [it.strip() for it in fields.split(";") if it.strip()] for name, fields in re.findall(r"(struct boxglue_\w+) \{([^}]*)\};", declared(root))}
+    return None if wanted and found == wanted else f"the header has {found}, and the calls have {wanted}"
+
+
+def spelled(name):
+    """A name as C spells those of numbers: OUT_OF_MEMORY for OutOfMemory."""
+    return re.sub(r"(?<=[a-z])(?=[A-Z])", "_", name).upper()
+
+
+def numbers(root, enum, prefix, *sources, row=r"const (\w+): u32 = (\d+);"):
+    """What is wrong with the numbers of an enum. A row of the sources has a name and its number."""
+    found = re.findall(rf"{prefix}(\w+) = (\d+)", re.search(rf"enum {enum} {{(.*?)}}", declared(root))[1])
+    rows = re.findall(row, "".join(read(f"{root}/{it}") for it in sources))
+    wanted = [(spelled(name), number) for name, number in rows]
+    return None if wanted and found == sorted(wanted, key=lambda it: int(it[1])) else f"the header has {found}, and the calls have {wanted}"
+
+
+def statuses(root):
+    """What is wrong with the statuses."""
+    return numbers(root, "boxglue_status", "BOXGLUE_", f"{CALLS}/status.rt", f"{JOBS}/status.rt")
+
+
+def reply_kinds(root):
+    """What is wrong with the kinds of replies."""
+    return numbers(root, "boxglue_reply_kind", "BOXGLUE_REPLY_", f"{JOBS}/reply_kind.rt")
+
+
+def numbers_of_replies(root):
+    """What is wrong with the numbers of refusals, of their causes, and of kinds of boxes and items."""
+    rows = f"{JOBS}/rows.rt"
+    faults = f"{CALLS}/faults.rt"
+    wrong = (numbers(root, "boxglue_refusal", "BOXGLUE_REFUSAL_", REFUSALS, rows, faults, row=r"(?:Refusal::|const )(\w+)\S* (?:=> \(|u32 = )(\d+)"),
+             numbers(root, "boxglue_dvi_cause", "BOXGLUE_DVI_", faults, row=r"\bDviCause::(\w+) => (\d+)"),
+             numbers(root, "boxglue_tfm_cause", "BOXGLUE_TFM_", rows, row=r"\bTfmCause::(\w+) => (\d+)"),
+             numbers(root, "boxglue_line_cause", "BOXGLUE_LINE_", rows, row=r"\bCause::(\w+) => (\d+)"),
+             numbers(root, "boxglue_box_kind", "BOXGLUE_BOX_", rows, row=r"\bKind::(\w+) => (\d+)"),
+             numbers(root, "boxglue_item_kind", "BOXGLUE_ITEM_", f"{ITEMS}/row.rt", row=r"\bItemKind::(\w+) => (\d+)"))
+    return "; ".join(it for it in wrong if it) or None
+
+
+def status_texts(root):
+    """What is wrong with the texts of the statuses: C and Python have the same ones."""
+    found = re.findall(r'case BOXGLUE_(\w+): return ("[^"]+");', declared(root))
+    wanted = re.findall(r'Status\.(\w+): ("[^"]+"),', read(f"{root}/{STATUSES_OF_PYTHON}"))
+    names = re.findall(r"BOXGLUE_(\w+) = \d+", re.search(r"enum boxglue_status \{([^}]*)\}", declared(root))[1])
+    if [name for name, _ in found] != names:
+        return f"the header has texts of {[name for name, _ in found]}, and the statuses {names}"
+    return None if found == wanted else f"the header has {found}, and Python has {wanted}"
+
+
+def refusal_names(root):
+    """What is wrong with the names of refusals and of their causes: C and Python have the same ones."""
+    lists = re.findall(r"const names\[\] = \{([^}]*)\}", declared(root))
+    found = [re.findall(r'"(\w+)"', it) for it in lists]
+    python_text = read(f"{root}/{REPLIES_OF_PYTHON}")
+    wanted = [re.findall(r'\d+: "(\w+)"', re.search(r"_REFUSALS = \{(.*?)\}", python_text, flags=re.S)[1])]
+    wanted += [re.findall(r'"(\w+)"', re.search(rf"{it} = (.*)", python_text)[1]) for it in ("_DVI_CAUSES", "_METRIC_CAUSES")]
+    return None if found == wanted else f"the header has {found}, and Python has {wanted}"
+
+
+def c_of_rust(text):
+    """What C writes for parameters or fields of Rust. A name that is a word of Rust has an underscore after it there."""
+    made = []
+    for name, kind in re.findall(r"(\w+): ([^,]+)", re.sub(r"///.*|\bpub ", "", text)):
+        pointer, length = re.fullmatch(r"\*(const|mut) (\S+)\s*", kind), re.fullmatch(r"\[(\w+); (\d+)\]\s*", kind)
+        item = (pointer[2] if pointer else length[1] if length else kind).strip()
+        plain = {"core::ffi::c_void": "void", "i64": "int64_t"}.get(item) or TYPES.get(item) or f"struct {item}"
+        made.append(f"{'const ' if pointer and pointer[1] == 'const' else ''}{plain} {'*' if pointer else ''}{name.rstrip('_')}{f'[{length[2]}]' if length else ''}")
+    return made
+
+
+def rust(root):
+    """What is wrong with the declarations of bindings/rust."""
+    text = read(f"{root}/{RUST}")
+    found = [f"{c_type(result)} {name}({', '.join(c_of_rust(given)) or 'void'});" for name, given, result in re.findall(r"pub fn (\w+)\(([^)]*)\)(?: -> (\w+))?;", text)]
+    if found != functions_of(declared(root)):
+        return f"Rust declares {found}, and the header {functions_of(declared(root))}"
+    found = {f"struct {name}": c_of_rust(fields) for name, fields in re.findall(r"pub struct (\w+) \{(.*?)\n\}", text, flags=re.S)}
+    wanted = {name: [it.strip() for it in fields.split(";") if it.strip()] for name, fields in re.findall(r"(struct boxglue_\w+) \{([^}]*)\};", declared(root))}
+    if found != wanted:
+        return f"Rust has {found}, and the header {wanted}"
+    found, wanted = re.findall(r"pub const (BOXGLUE_\w+): u32 = (\d+);", text), re.findall(r"(BOXGLUE_\w+) = (\d+)", declared(root))
+    return None if found == wanted else f"Rust has {found}, and the header {wanted}"
+
+
+# Prints the structs, the calls and the numbers of the binding for Python as C declares them. It loads no library.
+PRINT_PYTHON = """
+import ctypes, json
+from boxglue import ItemKind, MarkKind, ReplyKind, Status, _library, _replies
+NAMES = {"Font": "font", "DviFontRow": "dvi_font", "FontSizes": "font_sizes", "PageRow": "page", "MarkRow": "mark", "MarkSizes": "mark_sizes", "FaultRow": "fault", "Measure": "measure", "GlyphMetrics": "glyph", "GlyphTable": "glyph_table",
+         "FontParameters": "font_parameters", "StepRow": "font_step", "BoxSizes": "box_sizes",
+         "ReplyRow": "reply", "ReplySizes": "reply_sizes", "JobHandle": "job", "WideDimen": "wide_dimen", "ItemRow": "item", "ItemSizes": "item_sizes", "c_int": "int32_t", "c_uint": "uint32_t", "c_long": "int64_t", "c_ulong": "size_t",
+         "c_char": "uint8_t", "c_char_p": "const uint8_t *", "c_void_p": "void *"}
+def text(kind):
+    if hasattr(kind, "_length_"):
+        return f"{text(kind._type_)}[{kind._length_}]"
+    if hasattr(kind, "contents"):
+        return f"{text(kind._type_)} *"
+    name = NAMES[kind.__name__]
+    return f"struct boxglue_{name}" if issubclass(kind, ctypes.Structure) else name
+structs = {text(it): [f"{text(kind)} {name.rstrip('_')}" for name, kind in it._fields_] for it in vars(_library).values() if hasattr(it, "_fields_") and it is not ctypes.Structure}
+calls = {f"boxglue_{name}": [*map(text, kinds)] for name, kinds in _library._CALLS.items()}
+enums = {"status": Status.__members__, "mark_kind": MarkKind.__members__, "item_kind": ItemKind.__members__, "reply_kind": ReplyKind.__members__,
+         "refusal": {name: number for number, name in _replies._REFUSALS.items()}, "tfm_cause": {it: at for at, it in enumerate(_replies._METRIC_CAUSES) if at},
+         "dvi_cause": {it: at for at, it in enumerate(_replies._DVI_CAUSES) if at},
+         "line_cause": {it: at for at, it in enumerate(_replies._LINE_CAUSES) if at}}
+print(json.dumps({**structs, **calls, **{f"enum boxglue_{name}": [*found.items()] for name, found in enums.items()}}))
+"""
+
+
+def python_words(root):
+    """What the binding for Python has: by the names of structs, of calls and of enums their fields, their parameters and their numbers."""
+    env = {"PYTHONPATH": f"{root}/bindings/python", "PYTHONDONTWRITEBYTECODE": "1"}
+    return json.loads(finished([sys.executable, "-c", PRINT_PYTHON], env=env, text=True, check=True).stdout)
+
+
+def python_type(declaration):
+    """The type of a parameter or a field as Python knows it, and its name: pointers to constant structs are pointers, and size_t has the 64 bits of uint64_t."""
+    kind, name, length = re.fullmatch(r"(.*?) ?(\w+)((?:\[\d+\])?)", declaration.strip()).groups()
+    return kind.replace("uint64_t", "size_t").replace("const struct", "struct") + length, name
+
+
+def python_wanted(root):
+    """The same of the header."""
+    text = declared(root).partition(CALLS_OF_C)[0]
+    made = {name: [" ".join(python_type(it)) for it in body.split(";")[:-1]] for name, body in re.findall(r"(struct boxglue_\w+) \{([^}]*)\};", text)}
+    for name, body in re.findall(r"\w+ (boxglue_\w+)\(([^)]*)\);", text):
+        made[name] = [] if body == "void" else [python_type(it)[0] for it in body.split(",")]
+    for name, body in re.findall(r"(enum boxglue_\w+) \{([^}]*)\};", text):
+        rows = re.findall(r"BOXGLUE_(\w+) = (\d+)", body)
+        prefix = os.path.commonprefix([it for it, _ in rows])
+        made[name] = [[it.removeprefix(prefix[:prefix.rfind("_") + 1]), int(number)] for it, number in rows]
+    return made
+
+
+def python(root):
+    """What is wrong with the structs, the calls and the numbers of bindings/python."""
+    found, wanted = python_words(root), python_wanted(root)
+    plain = {name: [[spelled(it[0]), it[1]] for it in rows] if name.startswith("enum") else rows for name, rows in found.items()}
+    wrong = [f"{name} is {rows} in Python, and {wanted.get(name)} in the header" for name, rows in plain.items() if rows != wanted.get(name)]
+    return "; ".join(wrong) or (None if plain else "Python declares nothing")
+
+
+def version(root):
+    """What is wrong with the version: the places that have another one than the header."""
+    return "; ".join(tools_version.wrong(root)) or None
+
+
+def new_version(root):
+    """What is wrong with a new version that is written into copies of all places."""
+    with tempfile.TemporaryDirectory(prefix="boxglue-version-") as room:
+        for path in {path for path, _ in tools_version.PLACES}:
+            os.makedirs(os.path.dirname(f"{room}/{path}"), exist_ok=True)
+            shutil.copy(f"{root}/{path}", f"{room}/{path}")
+        tools_version.write(room, "1.23.4")
+        wrong = tools_version.wrong(room)
+        return "; ".join(wrong) or (None if (tools_version.number(room), tools_version.dotted(room)) == (12304, "1.23.4") else "the header has another version")
+
+
+def other_places(root):
+    """Lines of the program, the library, their documents and packages that have the version, and that tools/version.py does not write. A line may tell of its history."""
+    number, wrong = tools_version.dotted(root), []
+    patterns = "install include/* completions/* docs/boxglue.1 bindings/**/* crates/*/src/**/*.rt tools/**/*".split()
+    for path in sorted({os.path.relpath(it, root) for pattern in patterns for it in glob.glob(f"{root}/{pattern}", recursive=True) if os.path.isfile(it)}):
+        with open(f"{root}/{path}", encoding="utf-8", errors="replace") as it:
+            text = it.read()
+        for place in (pattern for name, pattern in [(tools_version.HEADER, tools_version.DEFINED), *tools_version.PLACES] if name == path):
+            text = re.sub(place, "", text)
+        wrong += [f"{path}: {line.strip()}" for line in text.splitlines() if number in line and not re.search(r"since = |such as|as 1|From |In 1|tools/version\.py", line)]
+    return "; ".join(wrong) or None
+
+
+def interface_of(text):
+    """What a program can see of a header: its calls, its structs and the numbers of its enums."""
+    structs_of = re.findall(r"struct boxglue_\w+ \{[^}]*\};", text)
+    enums = re.findall(r"enum (boxglue_\w+) \{([^}]*)\}", text)
+    return [*functions_of(text), *structs_of, *(f"enum {name} {it};" for name, body in enums for it in re.findall(r"BOXGLUE_\w+ = \d+", body))]
+
+
+def digest_of(lines):
+    """The digest of the rows of a version."""
+    return DIGEST + hashlib.sha256("".join(f"{it}\n" for it in sorted(lines)).encode()).hexdigest()
+
+
+def listed(root):
+    """The rows of the list by version."""
+    rows = {}
+    for line in read(f"{root}/{INTERFACE}").splitlines():
+        number, _, what = line.partition("\t")
+        rows.setdefault(number, []).append(what)
+    return rows
+
+
+def first_number(number):
+    """The first number of a version."""
+    return int(number.partition(".")[0])
+
+
+def gone_wrong(rows):
+    """Rows that are gone, and stood in a version with the same first number."""
+    gone = [(number, it.removeprefix(GONE)) for number, its in rows.items() for it in its if it.startswith(GONE)]
+    stood = lambda what, first: any(what in its and first_number(it) == first for it, its in rows.items())
+    return [what for number, what in gone if (number, what) != CHANGED and stood(what, first_number(number))]
+
+
+def interface_wrong(text, rows, number, released):
+    """What is wrong with the header of a version and the list by version."""
+    lines = [it for its in rows.values() for it in its if not it.startswith(DIGEST)]
+    found, here = sorted(interface_of(text)), sorted(it for it in lines if not it.startswith(GONE) and GONE + it not in lines)
+    if found != here:
+        return f"{INTERFACE} and the header differ in {sorted({*found} ^ {*here})}: a row has the version that added it, and a released version keeps its rows"
+    if gone_wrong(rows):
+        return f"{gone_wrong(rows)} can be gone only where the first number rises"
+    wrong = [it for it in released if digest_of([line for line in rows.get(it, []) if not line.startswith(DIGEST)]) not in rows.get(it, [])]
+    late = [it for it in rows if [*map(int, it.split("."))] > [*map(int, number.split("."))]]
+    return f"{INTERFACE} has other rows for {', '.join(wrong + late)} than when it was released: raise the number by tools/version.py" if wrong + late else None
+
+
+def interface(root):
+    """What is wrong with the header and the list by version."""
+    return interface_wrong(declared(root), listed(root), tools_version.dotted(root), re.findall(RELEASED, read(f"{root}/CHANGELOG.md")))
+
+
+def new_call(root):
+    """Whether a call is found that is added without a new number, whatever row it has; and one that is gone."""
+    text, rows, number = declared(root), listed(root), tools_version.dotted(root)
+    call, released = "uint32_t boxglue_new(void);", re.findall(RELEASED, read(f"{root}/CHANGELOG.md"))
+    # A version that is released takes no row, so the next one stands for it.
+    if number in released:
+        number = f"{number.partition('.')[0]}.{int(number.split('.')[1]) + 1}.0"
+        rows = {**rows, number: []}
+    longer = f"{call} {text}"
+    with_row = lambda its, at, what=call: {**its, at: [*its.get(at, []), what]}
+    frozen, old = with_row(rows, number, digest_of(rows[number])), functions_of(text)[0]
+    refused = {
+        "no row": interface_wrong(longer, rows, number, released),
+        "a released version": interface_wrong(longer, with_row(rows, released[0]), number, released),
+        "a later version": interface_wrong(longer, with_row(rows, "99.0.0"), number, released),
+        "this version, once it is released": interface_wrong(longer, with_row(frozen, number), number, [*released, number]),
+        "a call that is gone": interface_wrong(text.replace(old, ""), with_row(rows, number, GONE + old), number, released)}
+    allowed = interface_wrong(longer, with_row(rows, number), number, released)
+    return allowed or "; ".join(f"{name} is not found" for name, wrong in refused.items() if not wrong) or None
+
+
+def cases(_programs, root):
+    """A case for each kind of declaration."""
+    of_c = functions, null_calls, structs, statuses, reply_kinds, numbers_of_replies, status_texts
+    for check in (*of_c, refusal_names, rust, python, version, new_version, other_places, interface, new_call):
+        yield check.__name__, partial(check, root)

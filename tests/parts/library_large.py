@@ -1,0 +1,245 @@
+"""The library for C on large inputs, and on DVI files that its call for fonts accepts or refuses, called from C and from Python.
+Inputs and answers are made by arithmetic from docs/COMMANDS.md and docs/FORMATS.md, never by the program."""
+import tempfile
+from dataclasses import dataclass, field
+from functools import partial
+
+from common.library_inputs import Input, Printed, Room
+from common.part import Part, in_turn
+from common.texts import first_difference, last_lines
+from models import large_inputs
+from models.dvi_writer import Font, Page, definition, down, dvi_file, number, put_rule, right
+from models.dvi_writer import select, set_char
+from models.large_inputs import PT, TINY, ZERO_COUNTS, listed
+from parts.library_calls import made_in_c, made_in_python, differs, printed
+
+TITLE = "the library for C: many fonts and definitions, large files, long answers, refused files"
+POST_SIZE = 29
+NOP, BOP, PUSH, POP, EOP, PRE = b"\x8a", b"\x8b", b"\x8d", b"\x8e", b"\x8c", b"\xf7"
+FIRST, SECOND = Font(0, b"tiny"), Font(1, b"tiny", 20 * PT, 5 * PT, -0x01234568)
+
+
+@dataclass(frozen=True)
+class Calls:
+    """Files, and calls on them: the words of each, and what it prints: `Printed`, or for the fonts or marks of a file the status and the lines."""
+    files: dict
+    calls: list = field(default_factory=list)
+
+
+def calls_of_run(run):
+    """The calls for a run of the program: a script as a whole, and on a job in pieces and in one piece; or a listing."""
+    text, status = b"".join(run.stdout), run.status
+    if run.words[:1] == ("list",):
+        yield [*run.words], Printed(status, text)
+    if run.words[:1] == ("typeset",):
+        dvi = run.made.get("out.dvi") or b""
+        for words in (["run"], ["job", "0"], ["job", "100"]):
+            yield [*words, "script", *run.words[2:]], Printed(status, text, dvi)
+
+
+def calls_of_work(make):
+    """The calls for the runs of a work of large_inputs.py, and the fonts of its file."""
+    work = make()
+    scripts = {it.stdin for it in work.runs if it.words[:1] == ("typeset",)}
+    made = {name: data for it in work.runs for name, data in it.made.items() if data}
+    assert len(scripts) == 1, "one script"
+    return Calls({**work.files, **made, "script": scripts.pop()}, [call for run in work.runs for call in calls_of_run(run)])
+
+
+def rows_of(fonts):
+    """The lines that are printed for the fonts of a file."""
+    return b"".join(b"%d %d %s %d %d\n" % (it.number, it.size, it.name, it.design_size, it.check_sum % (1 << 32)) for it in fonts)
+
+
+def all_slots():
+    """256 fonts in 256 slots: the file has 256 definitions, as many as boxglue can write."""
+    calls = calls_of_work(large_inputs.all_slots)
+    fonts = [Font(slot, f"f{slot}".encode(), 655360 + 2 * slot) for slot in range(256)]
+    return Calls(calls.files, [*calls.calls, (["fonts", "out.dvi"], (0, rows_of(fonts)))])
+
+
+def definitions_of_another_program():
+    """1,000 definitions in less than 64 KiB, with numbers from 100 on; of each third font the name has another length, and of the last one no byte."""
+    names = [b"n%d" % at * (1 + at % 3) for at in range(999)] + [b""]
+    fonts = [Font(100 + at, name, 1 + at) for at, name in enumerate(names)]
+    file = dvi_file([Page([put_rule(1, 1)], new_fonts=tuple(fonts))], 0, 0)
+    assert len(file.data) < 1 << 16
+    return Calls({"f.dvi": file.data}, [(["fonts", "f.dvi"], (0, rows_of(fonts))), (["list", "f.dvi"], Printed(0, listed([(ZERO_COUNTS, ["rule 0 0 1 1"])])))])
+
+
+def three_hundred_fonts():
+    """300 fonts are handed in, of which 299 have no bytes: the script uses the last one, and so does its file. A font after 300 of other names is found too."""
+    words = [*(f"n{at}=none.tfm" for at in range(299)), "n299=tiny.tfm"]
+    lines = ["font 7 n299", "use 7", "hbox into 0", "text c", "end", "ship 0"]
+    file = dvi_file([Page([down(5 * PT), select(7), set_char(99)], new_fonts=(Font(7, b"n299"),))], 5 * PT, 5 * PT)
+    replies = [*"ok; ok; ok; added 1 missing 0".split("; "), large_inputs.packed(5 * PT, 5 * PT, 0), "shipped 1"]
+    ran = Printed(0, large_inputs.answers(replies, large_inputs.summary(1, file)), file.data)
+    runs = [([*call, "script", *words], ran) for call in (["run"], ["job", "0"], ["job", "2"])]
+    paint = ["paint", "1", "72", "2", "1", "f.dvi", *words]
+    marks = Printed(0, listed([(ZERO_COUNTS, [f"glyph 7 99 0 {5 * PT}"])]))
+    bad = (["list", "f.dvi", *words[:-1], "n299=none.tfm"], Printed(1, b"refused 5 BadTfm TooShort\n"))
+    return Calls({"script": large_inputs.script(lines), "none.tfm": b"", "tiny.tfm": TINY, "f.dvi": file.data},
+                 [*runs, (["list", "f.dvi", *words], marks), (paint, Printed(0, b"P1\n2 1\n00\n")), bad])
+
+
+def two_pages():
+    """A file of two pages and two fonts, and the place of its last byte that is not 223."""
+    file = dvi_file([Page([select(0), set_char(99), right(PT), [put_rule(1, 1)]], new_fonts=(FIRST, SECOND)), Page([])], 0, 0)
+    return file.data, file, len(file.data.rstrip(b"\xdf")) - 1
+
+
+def changed(data, at, bytes_there):
+    """The bytes of a file, with some replaced at a place."""
+    return data[:at] + bytes_there + data[at + len(bytes_there):]
+
+
+def files_that_are_refused():
+    """A file for each rule that the call tests: of the end, of the chain of pages, of the preamble, and of the definitions after post. With its place and cause."""
+    data, file, end = two_pages()
+    post, first_bop, second_bop = file.post, file.data.index(BOP), file.page_ends[0]
+    defined = post + POST_SIZE
+    size = len(definition(FIRST))
+    last_name = defined + 2 * size - 5
+    return {
+        "an empty file": (b"", 0, "Trailer"),
+        "three bytes 223": (data[:end + 4], end + 4, "Trailer"),
+        "another version at the end": (changed(data, end, b"\3"), end, "Version"),
+        "no post_post": (changed(data, end - 5, NOP), end - 5, "Opcode"),
+        "post_post names no post": (changed(data, end - 4, number(post + 1, 4)), end - 4, "Pointer"),
+        "post names no bop": (changed(data, post + 1, number(second_bop + 1, 4)), post + 1, "Pointer"),
+        "a bop names no bop": (changed(data, second_bop + 41, number(first_bop + 1, 4)), second_bop + 41, "Pointer"),
+        "a page too many": (changed(data, post + 27, number(3, 2)), post, "Count"),
+        "no pre": (changed(data, 0, NOP), 0, "Preamble"),
+        "another version at the beginning": (changed(data, 1, b"\3"), 0, "Preamble"),
+        "other units": (changed(data, 13, b"\1"), 0, "Preamble"),
+        "no magnification": (changed(changed(data, 10, bytes(4)), post + 13, bytes(4)), 0, "Preamble"),
+        "a name that is cut off": (changed(data, last_name, b"\5"), defined + size, "Truncated"),
+        "an eop after post": (changed(data, defined, EOP), defined, "Opcode"),
+        "a font of no size": (changed(data, defined + 6, bytes(4)), defined, "Font"),
+        "a font of 2^27": (changed(data, defined + 6, number(1 << 27, 4)), defined, "Font"),
+        "two definitions of a number": (changed(data, defined + size + 1, b"\0"), defined + size, "Font"),
+    }
+
+
+def refused_files():
+    """Each of them, with its line."""
+    found = files_that_are_refused()
+    return Calls({f"{at}.dvi": data for at, (data, _, _) in enumerate(found.values())},
+                 [(["fonts", f"{at}.dvi"], (1, b"refused 20 BadDvi %d %s\n" % (place, cause.encode()))) for at, (_, place, cause) in enumerate(found.values())])
+
+
+def broken_pages():
+    """Files whose pages are broken, each with the place and the cause that a listing names."""
+    data, file, _ = two_pages()
+    definitions, body = file.data.index(definition(FIRST)), file.data.index(BOP) + 45
+    moved = body + 2
+    assert data[body:moved] == select(0) + set_char(99) and data[moved + 4:moved + 5] == PUSH
+    return {
+        "an instruction that there is not": (changed(data, body, b"\xfa"), body, "Opcode"),
+        "a pre in a page": (changed(data, body, PRE), body, "Opcode"),
+        "a pop without a push": (changed(data, body, POP), body, "Stack"),
+        "a push too many": (changed(data, moved, PUSH + 3 * NOP), moved + 4, "Stack"),
+        "a character without a font": (changed(data, body, NOP), body + 1, "Glyph"),
+        "a character that the font has not": (changed(data, body + 1, set_char(1)), body + 1, "Glyph"),
+        "a font that is not defined": (changed(data, body, select(9)), body, "Font"),
+        "another definition before the page": (changed(data, definitions + 6, number(11 * PT, 4)), file.post + POST_SIZE, "Font"),
+        "no end of a page": (changed(data, file.page_ends[0] - 1, NOP), file.page_ends[0], "Opcode"),
+    }
+
+
+def files_with_broken_pages():
+    """Each of them, and the whole file, has its fonts: the call does not read the pages. A listing refuses all but the whole file."""
+    whole, found = two_pages()[0], broken_pages()
+    files = {"whole.dvi": whole, **{f"{at}.dvi": data for at, (data, _, _) in enumerate(found.values())}}
+    lists = [(["list", f"{at}.dvi", "tiny=tiny.tfm"], Printed(1, b"refused 20 BadDvi %d %s\n" % (place, cause.encode())))
+             for at, (_, place, cause) in enumerate(found.values())]
+    return Calls({"tiny.tfm": TINY, **files}, [*((["fonts", name], (0, rows_of([FIRST, SECOND]))) for name in files), *lists])
+
+
+def large_files():
+    """A page of 8,000 rules, whose file is above 64 KiB, and its marks; and those of the file of a page of 80,000 rules. A check accepts both files."""
+    calls = calls_of_work(large_inputs.page_of_rules)
+    typeset, listing, _ = large_inputs.page_of_instructions().runs
+    marks = [(["marks", "out.dvi"], (0, listed([(ZERO_COUNTS, large_inputs.rules_marks())]))), (["marks", "more.dvi"], (0, b"".join(listing.stdout)))]
+    checks = [(["check", name], (0, b"")) for name in ("out.dvi", "more.dvi")]
+    return Calls({**calls.files, "more.dvi": typeset.made["out.dvi"]}, [*calls.calls, *marks, *checks])
+
+
+def fonts_of_large_file():
+    """The fonts of a file above 64 KiB."""
+    return Calls({"f.dvi": large_inputs.rules_and_fonts().data}, [(["fonts", "f.dvi"], (0, rows_of(large_inputs.FONTS_OF_RULES)))])
+
+
+def large_broken_files():
+    """A file whose last rule is no instruction, and one with a bad definition of a font after post: both places are above 65,536."""
+    file = large_inputs.rules_and_fonts()
+    last_rule = file.page_ends[0] - 1 - len(put_rule(PT, PT))
+    assert last_rule > 1 << 16 and file.data[last_rule:-1].startswith(put_rule(PT, PT) + EOP)
+    bad_font, place = large_inputs.with_bad_font(file)
+    lines = {"page.dvi": b"refused 20 BadDvi %d Opcode\n" % last_rule, "font.dvi": b"refused 20 BadDvi %d Font\n" % place}
+    calls = [call for name, line in lines.items() for call in ((["marks", name], (1, line)), (["check", name], (1, line)), (["list", name], Printed(1, line)),
+                                                              ([*"paint 1 72 2 1".split(), name], Printed(1, line)))]
+    return Calls({"page.dvi": changed(file.data, last_rule, b"\xfa"), "font.dvi": bad_font}, [*calls, (["fonts", "font.dvi"], (1, lines["font.dvi"]))])
+
+
+def many_replies():
+    """66,000 replies, the last of them a refusal, by one call and by a job's. From C they are texts, and from Python numbers of which texts are made."""
+    count = 66_000
+    text = large_inputs.answers(["ok"] * (count - 1) + ["refused 21 VoidBox"], "pages 0 bytes 0")
+    calls = [(words, Printed(1, text)) for words in (["run", "script"], ["job", "0", "script"])]
+    return Calls({"script": large_inputs.script(["void 0"] * (count - 1) + ["ship 0"])}, calls)
+
+
+CASES = {
+    "256 fonts and definitions": all_slots,
+    "298 fonts": partial(calls_of_work, large_inputs.many_words),
+    "300 fonts": three_hundred_fonts,
+    "1,000 definitions": definitions_of_another_program,
+    "files above 64 KiB": large_files,
+    "fonts of a file above 64 KiB": fonts_of_large_file,
+    "files that are broken above 64 KiB": large_broken_files,
+    "answers above 2 MiB": partial(calls_of_work, large_inputs.long_answers),
+    "66,000 replies": many_replies,
+    "files that the call for fonts refuses": refused_files,
+    "files with broken pages": files_with_broken_pages,
+}
+
+
+def status_and_lines(ran):
+    """The status and the lines that a call for fonts or marks printed. From C the first line also has the number of the fonts and the size of their names or of the
+    refusal; or the units of the file."""
+    line, _, rest = ran.stdout.partition(b"\n")
+    return f"the status is {ran.returncode}: {last_lines(ran.stderr)}" if ran.returncode else (int(line.split()[0]), rest)
+
+
+def call_wrong(ran, words, wanted):
+    """What is wrong with a call, or None."""
+    call = " ".join(words[:3])
+    if isinstance(wanted, Printed):
+        return differs(call, printed(ran), wanted)
+    found = status_and_lines(ran)
+    if isinstance(found, str) or found[0] != wanted[0]:
+        return f"{call}: {found} and not {wanted}"
+    return first_difference(f"{call}: the lines", found[1], wanted[1])
+
+
+def outcome(make_calls, make, root, archive=None, *_programs):
+    """Makes the calls of a case."""
+    calls = make()
+    with tempfile.TemporaryDirectory(prefix="boxglue-library-") as path:
+        room = Room(path, Input("", calls.files.get("script", b"")))
+        for name, data in calls.files.items():
+            room.write(name, data)
+        made = make_calls(root, archive, room, [words for words, _ in calls.calls])
+        return next(filter(None, (call_wrong(ran, words, wanted) for ran, (words, wanted) in zip(made, calls.calls, strict=True))), None)
+
+
+def cases(make_calls, programs, root):
+    """The cases, by name."""
+    return [(name, partial(outcome, make_calls, make, root, *programs)) for name, make in CASES.items()]
+
+
+def parts(_root):
+    """A part for each language."""
+    for name, language, make_calls in (("library_c_large", "C", made_in_c), ("library_python_large", "Python", made_in_python)):
+        yield Part(name, f"{TITLE}, from {language}", partial(cases, make_calls), "library", True, split=in_turn(4))
