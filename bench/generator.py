@@ -8,7 +8,7 @@ import sys
 
 sys.path.insert(1, os.path.join(os.path.dirname(os.path.dirname(os.path.abspath(__file__))), "tests"))
 from inputs import OFTEN, WORDS  # noqa: E402
-from steps.dvi_writer import Font, Page, definition, dvi_file  # noqa: E402
+from models.dvi_writer import Font, Page, definition, dvi_file  # noqa: E402
 
 # The second number of a seed, for each use.
 HOSTILE_SEEDS, DOCUMENT_SEEDS, TEX_SEEDS, FONT_SEEDS, DAMAGE_SEEDS, SHEET_SEEDS, FILE_SEEDS = range(1, 8)

@@ -5,7 +5,7 @@ import struct
 import sys
 
 sys.path.insert(1, os.path.join(os.path.dirname(os.path.dirname(os.path.abspath(__file__))), "tests"))
-from steps.plain_font import metric_bytes  # noqa: E402 (after the path)
+from models.plain_font import metric_bytes  # noqa: E402 (after the path)
 
 # Words of running prose: frequent ones, and others.
 OFTEN = "the of and to in a that is was it for with as his on be at by had not are but from which have they one were their there would when what about"

@@ -1,6 +1,7 @@
 #!/usr/bin/env python3
 """Times typed calls: bench/typed.py ARCHIVE, where ARCHIVE is the library for C. For each language it prints a line: microseconds a command by typed calls, and by a text that
-the program makes. In Python the calls are those of a batch, and a third number is the time of one call after the other. Each is the least of some rounds."""
+the program makes. In Python the calls are those of a batch, and a third number is the time of one call after the other. In C the third is that of a text for each command.
+Each is the least of some rounds."""
 import os
 import subprocess
 import sys
@@ -8,7 +9,7 @@ import tempfile
 import time
 
 ROOT = os.path.dirname(os.path.dirname(os.path.abspath(__file__)))
-PAIRS, ROUNDS = 2000, 30
+PAIRS, ROUNDS = 2000, 100
 MANIFEST = '[package]\nname = "typed"\nversion = "0.1.0"\nedition = "2021"\n[dependencies]\nboxglue = { path = "%s/bindings/rust/boxglue" }\n[[bin]]\nname = "typed"\npath = "%s/bench/typed/typed.rs"\n'
 
 

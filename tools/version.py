@@ -19,14 +19,15 @@ PLACES = [
     ("crates/boxglue_calls/src/edition.rt", rf"(?<=\n    ){NUMBER}(?=\n)"),
     ("crates/boxglue_c/src/lib.rt", rf"(?<=boxglue_version\(\) -> u32\n    ensures {{ result ≡ ){NUMBER}"),
     ("crates/tests_calls/src/scripts.rt", rf"(?<=version\(\), ){NUMBER}"),
+    ("docs/boxglue.1", rf'(?<=\d "boxglue ){DOTTED}'),
     ("docs/boxglue.1", rf'(?<=\.BR "boxglue ){DOTTED}'),
     ("bindings/python/boxglue/__init__.py", rf'(?<=__version__ = "){DOTTED}'),
-    *(("bindings/python/README.md", rf"(?<={before}){DOTTED}") for before in ("has its version, such as ", "the wheel of one without proofs is ")),
+    *(("bindings/python/README.md", rf"(?<={before}){DOTTED}") for before in ("library's version, such as ", "has a version such as ")),
     *(("bindings/wheel", rf"(?<={before}){DOTTED}") for before in ("\nthe version ", "which sorts below ")),
     ("bindings/rust/Cargo.toml", rf'(?<=\nversion = "){DOTTED}'),
     ("bindings/rust/boxglue/Cargo.toml", rf'(?<="../boxglue-sys", version = "){DOTTED}'),
     *(("bindings/rust/Cargo.lock", rf'(?<=\nname = "{name}"\nversion = "){DOTTED}') for name in ("boxglue", "boxglue-sys")),
-    *((f"tests/program/{name}/stdout", rf"(?<=boxglue ){DOTTED}") for name in ("version", "version_before_other_words", "version_by_its_short_option")),
+    *((f"tests/cases/program/{name}/stdout", rf"(?<=boxglue ){DOTTED}") for name in ("version", "version_before_other_words", "version_by_its_short_option")),
 ]
 
 

@@ -16,8 +16,8 @@ import time
 HERE = os.path.dirname(os.path.abspath(__file__))
 ROOT = os.path.dirname(os.path.dirname(HERE))
 sys.path[:0] = [ROOT + "/tests"]
-from steps.library_build import build_shared, heap_archive  # noqa: E402 (after the path)
-from steps.plain_font import metric_file  # noqa: E402
+from common.library_build import build_shared, compile_c  # noqa: E402 (after the path)
+from models.plain_font import metric_file  # noqa: E402
 
 LIMIT = 1800
 C_WAYS = ("threads", "passed", "forks", "killed", "exits")
@@ -38,9 +38,10 @@ LEAKS = {"exits": ["--leak-check=no"], "killed": ["--leak-check=no"]}
 def build(archive, folder, name):
     """Builds the caller, and returns its path."""
     out = f"{folder}/caller_{name}"
-    words = ["cc", "-std=c11", "-D_GNU_SOURCE", "-O1", "-g", "-Wall", "-Wextra", "-Werror", "-pthread", *BUILDS[name], f"-I{ROOT}/include", f"-I{ROOT}/bindings/c", "-o", out,
-             f"{HERE}/callers_at_once.c", f"{ROOT}/bindings/c/inputs.c", archive, heap_archive()]
-    subprocess.run(words, check=True)
+    flags = ["-D_GNU_SOURCE", "-pthread", *BUILDS[name], f"-I{ROOT}/bindings/c"]
+    wrong = compile_c(ROOT, archive, [f"{HERE}/callers_at_once.c", f"{ROOT}/bindings/c/inputs.c"], out, flags)
+    if wrong:
+        sys.exit(f"the caller is not built: {wrong}")
     return out
 
 
@@ -53,7 +54,8 @@ def commands(archive, folder, way):
             print("valgrind is not there")
             return
         options = options + LEAKS.get(way, []) if tool == "memcheck" else options
-        yield tool, ["valgrind", "-q", f"--tool={tool}", "--error-exitcode=9", "--fair-sched=yes", *options, build(archive, folder, "plain")], 20
+        words = f"valgrind -q --tool={tool} --error-exitcode=9 --fair-sched=yes".split()
+        yield tool, [*words, *options, build(archive, folder, "plain")], 20
 
 
 def run(name, words, env, folder):

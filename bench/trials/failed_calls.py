@@ -6,7 +6,6 @@ like the one without a failure, and 1 comes with a message, a refusal or an outp
 interrupted reading or writing, and an output that has no room yet, change nothing; where an output fails, the file is whole all the same.
 Printed are the runs by task and by what failed; the status is 1 where something is wrong."""
 
-import argparse
 import collections
 import itertools
 import os
@@ -16,15 +15,15 @@ import sys
 import tempfile
 
 from hostile_answers import ONE_MESSAGE, Wrong, require
-from hostile_inputs import ROOT
-from steps.plain_font import metric_file
+from hostile_inputs import ROOT, parser_of
+from models.plain_font import metric_file
 
 LIMIT = 60
 FONT = "cmr10=plain.tfm"
 SCRIPT = "page_of_text.box"
 TASKS = {
     "typeset": ["typeset", "out.dvi", FONT], "session": ["session", "out.dvi", FONT], "memory": [], "list": ["list", "page.dvi", FONT], "fonts": ["fonts", "page.dvi"],
-    "paint": ["paint", "--page", "1", "--dpi", "72", "--width", "300", "--height", "300", "page.dvi", FONT],
+    "paint": [*"paint --page 1 --dpi 72 --width 300 --height 300 page.dvi".split(), FONT],
 }
 # A brk that fails returns the old end of the heap, and no error; the C library compares it with the end that it asked for.
 ERRORS = {
@@ -118,8 +117,7 @@ def try_task(traced, task, closed, counts):
 
 
 def main():
-    parser = argparse.ArgumentParser(description=__doc__, formatter_class=argparse.RawDescriptionHelpFormatter)
-    parser.add_argument("--boxglue", default=os.environ.get("BOXGLUE", ROOT + "/crates/boxglue/out/boxglue"))
+    parser = parser_of(__doc__)
     parser.add_argument("--closed", action="store_true", help="also with each set of standard streams closed")
     parser.add_argument("tasks", nargs="*", metavar="TASK", help=", ".join(TASKS))
     words = parser.parse_args()

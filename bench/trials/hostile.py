@@ -7,7 +7,6 @@ What it prints, writes and returns has to be of a documented form (hostile_answe
 Printed are the inputs by kind and by what came of them, the slowest, the greatest memory, and all that is wrong; the status is 1 where something is.
 SIGTERM ends it early. The memory of a run that takes less than this process is known of one input in ten alone."""
 
-import argparse
 import collections
 import copy
 import ctypes
@@ -19,13 +18,13 @@ import sys
 import tempfile
 import time
 
-from hostile_answers import CHECKS, HEX, VERSION, Ran, Wrong, check_listing, check_reading, check_run, check_streams, require
-from hostile_inputs import Good, font_paths, font_words, input_of
+from hostile_answers import CHECKS, HEX, VERSION, Ran, Wrong, check_listing, check_reading
+from hostile_answers import check_run, check_streams, require
+from hostile_inputs import Good, font_paths, font_words, input_of, parser_of
 from hostile_sessions import SIGNALS, check_session
-from steps.dvi_reader import fonts_of_file, list_file
-from steps.metric_reader import Refused, read_metrics, signed, widths_at
+from models.dvi_reader import fonts_of_file, list_file
+from models.metric_reader import Refused, read_metrics, signed, widths_at
 
-HERE = os.path.dirname(os.path.abspath(__file__))
 ctypes.CDLL(None).prctl(36, 1, 0, 0, 0)  # a process that lost its parent becomes a child of this one
 SECONDS, MEMORY, AGAIN, SHOWN = 60, 2 << 30, 50, 100
 # A shell's background, and nohup, ignore some of these.
@@ -283,10 +282,7 @@ def try_all(room, good, numbers, kept):
 
 
 def main():
-    parser = argparse.ArgumentParser(description=__doc__, formatter_class=argparse.RawDescriptionHelpFormatter)
-    parser.add_argument("--boxglue", default=os.environ.get("BOXGLUE", os.path.join(HERE, "../../crates/boxglue/out/boxglue")))
-    parser.add_argument("--count", type=int, default=100_000, help="how many inputs")
-    parser.add_argument("--first", type=int, default=0, help="the number of the first")
+    parser = parser_of(__doc__, True)
     parser.add_argument("--keep", metavar="FOLDER", help="where the inputs go that went wrong; with --count 1 also one that went right")
     words = parser.parse_args()
     kept = words.keep and os.path.abspath(words.keep)

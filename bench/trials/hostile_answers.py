@@ -1,11 +1,15 @@
 """What the program may answer by docs/COMMANDS.md, docs/FORMATS.md and the manual page: the form of every line, and which refusals each command has."""
 
+import os
 import re
+import sys
 
-NAMES = {
-    1: "OutOfMemory", 2: "BadScript", 3: "DimensionTooLarge", 4: "NoFont", 5: "BadTfm", 6: "SlotTaken", 7: "NoOpenList", 8: "WrongMode", 9: "WrongKind", 10: "ListTooLong", 11: "TooDeep",
-    12: "InfiniteShrink", 13: "TooManyBreaks", 14: "HugePage", 15: "TooManyPages", 16: "TooMuchShipped", 17: "ListsOpen", 18: "Device", 19: "JobOver", 21: "VoidBox", 22: "TooMuchSpecial",
-}
+sys.path.insert(1, os.path.join(os.path.dirname(os.path.abspath(__file__)), "../../tests"))
+from common.outcome import Wrong  # noqa: E402 (after the path)
+
+NAMES = dict(enumerate("""
+    OutOfMemory BadScript DimensionTooLarge NoFont BadTfm SlotTaken NoOpenList WrongMode WrongKind ListTooLong TooDeep InfiniteShrink TooManyBreaks
+    HugePage TooManyPages TooMuchShipped ListsOpen Device JobOver BadDvi VoidBox TooMuchSpecial""".split(), 1))
 FONT_CAUSES = "TooShort|Counts|DesignSize|CharInfo|FixWord|LigKern"
 SCRIPT_CAUSES = "Byte|Word|Missing|Extra|Number|Dimension|Name"
 FILE_CAUSES = "Trailer|Version|Opcode|Pointer|Count|Preamble|Truncated|Stack|Glyph|Range|Font"
@@ -14,20 +18,22 @@ SIZES = "%s %s %s" % (D, D, D)
 PACKED = "packed %s badness %s" % (SIZES, N)
 PARAGRAPH = "paragraph lines %s pass [0-3] overhang %s demerits -?%s" % (N, N, N)
 SPLIT = "split (?:void|%s badness %s rest (?:void|%s))" % (SIZES, N, SIZES)
-# By command: its answer, and the numbers of its refusals.
-BOXING = ("ok", (7, 11, 1))
-UNBOXING = ("added %s" % N, (7, 8, 9, 10, 1))
-PUTTING = ("added %s" % N, (7, 3, 10, 1))
-SHAPING = ("added %s missing %s" % (N, N), (7, 8, 4, 10, 1))
-APPENDING = ("ok", (7, 10, 1))
-NEVER = ("ok", ())
-COMMANDS = {
-    "font": ("ok", (6, 4, 5, 3, 1)), "use": ("ok", (4,)), "hbox": BOXING, "vbox": BOXING, "vtop": BOXING, "par": ("ok", (7, 8, 11, 1)),
-    "end": ("%s|%s" % (PACKED, PARAGRAPH), (7, 3, 11, 10, 12, 13, 1)), "text": SHAPING, "char": SHAPING, "rule": ("ok", (7, 8, 10, 1)),
-    "kern": APPENDING, "glue": APPENDING, "penalty": APPENDING, "special": ("ok", (7, 22, 10, 1)), "box": PUTTING, "copy": PUTTING,
-    "unhbox": UNBOXING, "unhcopy": UNBOXING, "unvbox": UNBOXING, "unvcopy": UNBOXING, "lastbox": ("ok", (7,)), "vsplit": (SPLIT, (9, 12, 3, 1)),
-    "measure": ("measured (?:void|[hv]box %s)" % SIZES, ()), "void": NEVER, "set": NEVER, "count": NEVER, "ship": ("shipped %s" % N, (21, 15, 16, 22, 14, 1, 18)),
-}
+# The commands with one answer, which is named below, and the numbers of their refusals.
+ANSWERED = """
+    font ok 6 4 5 3 1; use ok 4; hbox vbox vtop ok 7 11 1; par ok 7 8 11 1; end ended 7 3 11 10 12 13 1; text char shaped 7 8 4 10 1
+    rule ok 7 8 10 1; kern glue penalty ok 7 10 1; special ok 7 22 10 1; box copy put 7 3 10 1; unhbox unhcopy unvbox unvcopy put 7 8 9 10 1
+    lastbox ok 7; vsplit split 9 12 3 1; measure measured; void set count ok; ship shipped 21 15 16 22 14 1 18"""
+ANSWERS = {"ok": "ok", "ended": "%s|%s" % (PACKED, PARAGRAPH), "shaped": "added %s missing %s" % (N, N), "put": "added %s" % N, "split": SPLIT}
+ANSWERS |= {"measured": "measured (?:void|[hv]box %s)" % SIZES, "shipped": "shipped %s" % N}
+
+
+def commands():
+    """Each command with the pattern of its answer and the numbers of its refusals."""
+    for row in ANSWERED.replace("\n", ";").split(";"):
+        words = row.split()
+        at = next((at for at, it in enumerate(words) if it in ANSWERS), 0)
+        for command in words[:at]:
+            yield command, ANSWERS[words[at]], [*map(int, words[at + 1:])]
 
 
 def refusal_pattern(numbers):
@@ -36,7 +42,7 @@ def refusal_pattern(numbers):
     return "refused (?:%s)" % "|".join(known)
 
 
-REPLIES = {word: re.compile("(?:%s|%s)" % (answer, refusal_pattern(numbers))) for word, (answer, numbers) in COMMANDS.items()}
+REPLIES = {word: re.compile("(?:%s|%s)" % (answer, refusal_pattern(numbers))) for word, answer, numbers in commands()}
 END = re.compile(r"end: (?:pages (\d+) bytes (\d+)|%s)" % refusal_pattern((17, 1, 18)))
 BAD_LINE = re.compile(r"refused 2 BadScript (\d+) (%s)" % SCRIPT_CAUSES)
 BAD_SCRIPT = re.compile(r"refused 2 BadScript (\d+) (?:%s)\n" % SCRIPT_CAUSES)
@@ -58,10 +64,6 @@ class Ran:
 
     def same(self, other):
         return (self.status, self.output, self.errors, self.made) == (other.status, other.output, other.errors, other.made)
-
-
-class Wrong(Exception):
-    """What is not as it is documented."""
 
 
 def require(holds, why, *words):

@@ -3,6 +3,7 @@ made again by itself.
 
 Most inputs are good ones with a few changes, since random bytes are refused at the first of them. hostile_scripts.py makes the scripts."""
 
+import argparse
 import glob
 import os
 import re
@@ -10,11 +11,11 @@ import sys
 
 ROOT = os.path.dirname(os.path.dirname(os.path.dirname(os.path.abspath(__file__))))
 sys.path[:0] = [ROOT + "/tests", ROOT + "/bench"]
-from steps.dvi_writer import Font, Page, dvi_file  # noqa: E402
-from steps.every_instruction import every_instruction  # noqa: E402
-from steps.large_inputs import TINY  # noqa: E402
-from steps.library_inputs import case_script, font_files  # noqa: E402
-from steps.plain_font import metric_file  # noqa: E402
+from models.dvi_writer import Font, Page, dvi_file  # noqa: E402
+from models.every_instruction import every_instruction  # noqa: E402
+from models.large_inputs import TINY  # noqa: E402
+from common.library_inputs import case_script, font_files  # noqa: E402
+from models.plain_font import metric_file  # noqa: E402
 from generator import HOSTILE_SEEDS, Chance, changed, changed_metrics, framed, sheet  # noqa: E402
 from hostile_scripts import changed_script, large_script, random_script  # noqa: E402
 from hostile_sessions import ODD_OUTS, WHOLE, Talk  # noqa: E402
@@ -22,6 +23,16 @@ from hostile_sessions import ODD_OUTS, WHOLE, Talk  # noqa: E402
 # Twenty inputs have these kinds, and so has each next twenty.
 KINDS = ("script",) * 5 + ("session",) * 2 + ("dvi",) * 6 + ("metrics",) * 3 + ("words",) * 4
 LONGEST_GOOD = 20_000
+
+
+def parser_of(about, count=False):
+    """A parser of the words that the trials have in common."""
+    parser = argparse.ArgumentParser(description=about, formatter_class=argparse.RawDescriptionHelpFormatter)
+    parser.add_argument("--boxglue", default=os.environ.get("BOXGLUE", ROOT + "/crates/boxglue/out/boxglue"))
+    if count:
+        parser.add_argument("--count", type=int, default=100_000, help="how many inputs")
+        parser.add_argument("--first", type=int, default=0, help="the number of the first")
+    return parser
 
 
 class Input:
@@ -50,7 +61,7 @@ class Good:
             data = typeset(script, fonts)
             if data and len(data) < LONGEST_GOOD:
                 self.files.append((data, fonts))
-        for path in sorted(glob.glob(ROOT + "/tests/program/*/files/*.dvi")):
+        for path in sorted(glob.glob(ROOT + "/tests/cases/program/*/files/*.dvi")):
             self.files.append((self.read(path), {"tiny": TINY}))
         # As many as a twentieth, since it has each instruction in all sizes of its number.
         self.files += [(every_instruction(), {"tiny": TINY})] * (len(self.files) // 20)
@@ -151,9 +162,11 @@ def metrics_input(chance, good):
 
 # Command lines
 
-ODD_PATHS = ("absent", "absent/page.dvi", ".", "folder", "f.dvi", "script", "tiny.tfm", "f.dvi/x", "", "-", "/dev/null", "/dev/stdin", "out.dvi", "loop", "no")
+ODD_PATHS = (*"absent absent/page.dvi . folder f.dvi script tiny.tfm f.dvi/x".split(), "", *"- /dev/null /dev/stdin out.dvi loop no".split())
 ODD_NUMBERS = "0 1 2 -1 72 +72 007 10000 10001 4294967295 4294967296 99999999999999999999 1.5 x 1e3 0x10".split() + ["", " 1", "9" * 5000]
-ODD_PAIRS = ("tiny=tiny.tfm", "tiny=tiny.tfm", "a=tiny.tfm", "tiny=absent", "tiny=.", "tiny=", "=tiny.tfm", "=", "tiny", "tiny==", "tiny=f.dvi", "tiny=/dev/null", "tiny=tiny.tfm=x")
+ODD_PAIRS = """
+    tiny=tiny.tfm tiny=tiny.tfm a=tiny.tfm tiny=absent tiny=. tiny= =tiny.tfm = tiny tiny==
+    tiny=f.dvi tiny=/dev/null tiny=tiny.tfm=x""".split()
 
 
 def odd_word(chance):
@@ -165,7 +178,7 @@ def odd_word(chance):
     if way == 2:
         return b"n" * chance.pick((254, 255, 256)) + b"=tiny.tfm"
     if way == 3:
-        return chance.pick(("--help", "-h", "-V", "--version", "--", "help", "list", "paint", "typeset", "session", "fonts", "--page", "-p", "--dpi=", "-hV", "---", "--no", "lists", "TYPESET")).encode()
+        return chance.pick("--help -h -V --version -- help list paint typeset session fonts --page -p --dpi= -hV --- --no lists TYPESET".split()).encode()
     if way == 4:
         return chance.pick((b"--page=", b"--dpi=", b"--width=", b"--height=")) + chance.pick(ODD_NUMBERS).encode()
     return chance.pick(ODD_PAIRS if way < 7 else ODD_PATHS).encode()

@@ -6,7 +6,6 @@ also with no room and with a byte too little, and fails where a byte outside its
 A script is run at once and in pieces on a job, each with answers as texts and as numbers; one with bad lines goes line by line to a job, which refuses these alone. A file is
 listed, painted, and asked for its marks and its fonts. The answers and bytes have to be those of the program, the fonts also those of the reader of the tests."""
 
-import argparse
 import collections
 import os
 import re
@@ -16,11 +15,11 @@ import time
 
 from hostile import Room
 from hostile_answers import Wrong, require
-from hostile_inputs import ROOT, Good, input_of
+from hostile_inputs import ROOT, Good, input_of, parser_of
 from hostile_sessions import Wanted
-from steps.dvi_reader import definitions_after, parts_of
-from steps.library_build import build_calls
-from steps.metric_reader import Refused
+from common.library_build import build_calls
+from models.dvi_reader import definitions_after, parts_of
+from models.metric_reader import Refused
 
 NO_SUCH_PAGE = 5
 WIDTH = re.compile(rb"^(glyph .*) width -?\d+$", re.M)
@@ -105,11 +104,8 @@ def check_file(program, library, it):
 
 
 def main():
-    parser = argparse.ArgumentParser(description=__doc__, formatter_class=argparse.RawDescriptionHelpFormatter)
+    parser = parser_of(__doc__, True)
     parser.add_argument("--archive", required=True)
-    parser.add_argument("--boxglue", default=os.environ.get("BOXGLUE", ROOT + "/crates/boxglue/out/boxglue"))
-    parser.add_argument("--count", type=int, default=100_000, help="how many inputs")
-    parser.add_argument("--first", type=int, default=0, help="the number of the first")
     words = parser.parse_args()
     caller, program = build_calls(ROOT, os.path.abspath(words.archive)), os.path.abspath(words.boxglue)
     came, wrong, start = collections.defaultdict(collections.Counter), 0, time.monotonic()

@@ -19,7 +19,7 @@ OUT, UNREAD = "out.dvi", b"boxglue: cannot read -\n"
 # Outputs that cannot be written: `typeset` says the same of them.
 ODD_OUTS = ("/dev/full", "folder", "absent/out.dvi", "loop")
 PAGE = b"hbox into 0\nrule 1pt 1pt 0pt\nend\nship 0\n"
-WHOLE = ("pieces", "pieces", "pieces", "lines", "lines", "late reader", "early end", "after the end")
+WHOLE = (*"pieces pieces pieces lines lines".split(), "late reader", "early end", "after the end")
 WAYS = WHOLE + ("closed reader", "full output", "closed streams", "reset", "signal")
 SIGNALS = (signal.SIGTERM, signal.SIGKILL, signal.SIGHUP, signal.SIGINT)
 SMALL_PIPE, MOST_WAITS = 4096, 60

@@ -2,7 +2,7 @@
 """Compares boxglue with TeX's programs: bench/trials/outside.py [--boxglue PROGRAM] [--by WAY] [--folder FOLDER] [--notes N] [--seeds N] [PART ..], all parts if none is named.
 
 Each part prints one line of counts and differences, and below it the causes that are known, and the first N of the others; or which tools it lacks, and then the status is 1.
-With `--by session` scripts are given to `boxglue session` line by line; with `--by library` all but `large` goes through the package for Python: replies, marks, fonts and bitmaps.
+With `--by session` scripts are given to `boxglue session` line by line.
 Everything random has a fixed seed. The inputs and outputs stay in FOLDER, if one is named. It needs Debian's packages texlive-base, texlive-latex-base, dvipng, ghostscript and poppler-utils;
 with texlive-fonts-recommended, texlive-latex-recommended, texlive-pictures and texlive-extra-utils it has more metric files and documents. docs/internal/EVIDENCE.md has the results."""
 
@@ -20,15 +20,16 @@ HERE = os.path.dirname(os.path.abspath(__file__))
 sys.path.insert(1, os.path.dirname(HERE))
 import inputs  # noqa: E402 (after the path)
 from outside_documents import DOCUMENTS  # noqa: E402
-from outside_files import black_pixels, drawn, dvipng_rules, fonts, large, other_fonts, painted, random_files, sheets  # noqa: E402
+from outside_files import black_pixels, drawn, dvipng_rules, fonts, large, other_fonts  # noqa: E402
+from outside_files import painted, random_files, sheets  # noqa: E402
 from outside_fonts import TREES, damaged, metrics  # noqa: E402
 from outside_pages import Tally, black, by_dvitype  # noqa: E402
-from outside_random import boxes, long_paragraphs, long_script, pages, paragraphs, splits  # noqa: E402
-from outside_ways import LibraryWork, SessionWork  # noqa: E402
+from outside_random import boxes, long_paragraphs, long_script, pages, paragraphs  # noqa: E402
+from outside_random import splits  # noqa: E402
+from outside_ways import SessionWork  # noqa: E402
 from outside_work import Work  # noqa: E402
 
 EXAMPLES = os.path.join(HERE, "../../examples")
-LIBRARY = os.path.join(HERE, "../../crates/boxglue_c/out/libboxglue.so")
 
 
 # Files of TeX.
@@ -93,7 +94,7 @@ def readers(work):
         notes += ["%s: dvitype: %s" % (name, it) for it in read.complaints + (["%d pages" % len(read.pages)] if len(read.pages) != count else [])]
         for words in (["dvips", "-o", file + ".ps", file + ".dvi"], ["gs", "-q", "-dBATCH", "-dNOPAUSE", "-sDEVICE=nullpage", file + ".ps"],
                 ["dvipdfmx", "-o", file + ".pdf", file + ".dvi"], ["pdftoppm", "-r", "30", "-gray", file + ".pdf", file],
-                ["dvipng", "-D", "110", "-T", "tight", "-o", file + "-%d.png", file + ".dvi"]):
+                [*"dvipng -D 110 -T tight -o".split(), file + "-%d.png", file + ".dvi"]):
             status, text = work.run(*words)
             runs[words[0]] += 1
             if words[0] in ("gs", "pdftoppm"):
@@ -161,8 +162,7 @@ PARTS = {
 def main():
     parser = argparse.ArgumentParser(description=__doc__, formatter_class=argparse.RawDescriptionHelpFormatter)
     parser.add_argument("--boxglue", default=os.environ.get("BOXGLUE", os.path.join(HERE, "../../crates/boxglue/out/boxglue")))
-    parser.add_argument("--by", choices=("program", "session", "library"), default="program", metavar="WAY", help="program, session or library")
-    parser.add_argument("--library", default=LIBRARY, help="the shared object that bindings/build makes")
+    parser.add_argument("--by", choices=("program", "session"), default="program", metavar="WAY", help="program or session")
     parser.add_argument("--folder", help="a folder for all inputs and outputs, else one that is removed")
     parser.add_argument("--notes", type=int, default=5, metavar="N", help="how many differences of a part are shown")
     parser.add_argument("--seeds", type=int, metavar="N", help="of random work the first N seeds of a part alone")
@@ -171,15 +171,13 @@ def main():
     parts = words.parts or list(PARTS)
     if not set(parts) <= set(PARTS):
         parser.error("the parts are " + ", ".join(PARTS))
-    for path in (words.boxglue, words.library)[:2 if words.by == "library" else 1]:
-        if not os.path.isfile(path):
-            sys.exit("%s is not there" % path)
+    if not os.path.isfile(words.boxglue):
+        sys.exit("%s is not there" % words.boxglue)
     left_out = 0
     with tempfile.TemporaryDirectory() as room:
         folder = os.path.abspath(words.folder or room)
         os.makedirs(folder, exist_ok=True)
-        given = words.boxglue, folder, words.notes, words.seeds
-        work = LibraryWork(words.library, *given) if words.by == "library" else SessionWork(*given) if words.by == "session" else Work(*given)
+        work = (SessionWork if words.by == "session" else Work)(words.boxglue, folder, words.notes, words.seeds)
         for part in parts:
             start, (compare, tools) = time.monotonic(), PARTS[part]
             lacks = [it for it in tools.split() if shutil.which(it) is None]

@@ -128,7 +128,7 @@ class Pair:
 
     def items(self, horizontal, depth):
         for _ in range(self.chance.pick((0, 1, 3, 6, 10, 15))):
-            kind = self.chance.pick(("rule", "rule", "kern", "skip", "skip", "penalty", "special", "box", "register", "words", "words", "last"))
+            kind = self.chance.pick("rule rule kern skip skip penalty special box register words words last".split())
             if kind == "rule":
                 self.rule(horizontal)
             elif kind == "kern":
@@ -175,7 +175,7 @@ class Pair:
         for name, (common, _) in NUMBERS.items():
             self.used[name] = self.chance.pick(common)
             self.set(name, self.used[name])
-        self.set("parfillskip", self.chance.pick(("0pt plus 1fil", "0pt plus 1fil", "0pt plus 1fil", "20pt plus 60pt minus 20pt", "0pt plus 300pt")))
+        self.set("parfillskip", self.chance.pick([*["0pt plus 1fil"] * 3, "20pt plus 60pt minus 20pt", "0pt plus 300pt"]))
 
     def first_lines(self):
         """Some first lines get a width of their own, or none does."""
@@ -222,7 +222,7 @@ class Pair:
 
     def vertical_items(self, count):
         for _ in range(count):
-            kind = self.chance.pick(("rule", "hbox", "hbox", "text", "skip", "skip", "skip", "kern", "penalty", "special", "vbox"))
+            kind = self.chance.pick("rule hbox hbox text skip skip skip kern penalty special vbox".split())
             if kind == "rule":
                 self.rule(False, 20)
             elif kind == "hbox":
@@ -273,7 +273,7 @@ def boxes(seed, count):
 
 
 KINDS = {
-    "rules": ("rule", "rule", "rule", "skip", "skip", "skip", "skip", "kern", "penalty", "special", "box"),
+    "rules": "rule rule rule skip skip skip skip kern penalty special box".split(),
     "text": ("text",) * 12 + ("skip", "penalty", "special", "rule", "kern", "box"),
     "long": ("text",) * 12 + ("skip", "penalty", "special", "rule", "kern"),
 }

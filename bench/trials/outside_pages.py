@@ -6,8 +6,8 @@ import subprocess
 import zlib
 from collections import Counter, namedtuple
 
-# A mark is a glyph (what: font and code), a rule (what: height and width) or a special (what: its text). The width of a glyph is there where the reader says it.
-Mark = namedtuple("Mark", "kind what h v width", defaults=(None,))
+# A mark is a glyph (what: font and code), a rule (what: height and width) or a special (what: its text).
+Mark = namedtuple("Mark", "kind what h v")
 Page = namedtuple("Page", "counts marks")
 
 STEP = re.compile(r"\d+: ([a-z]+)(\d*) ?(.*)")
@@ -86,8 +86,6 @@ def by_dvitype(path, folder):
             h, v = map(int, saved.groups())
         if right:
             h = int(right[2])
-        if right and name in ("set", "setchar"):
-            marks[-1] = marks[-1]._replace(width=int(right[1]))
         if down:
             v = int(down[1])
     if done.returncode:
@@ -146,9 +144,6 @@ class Tally:
         same = True
         for one, other in zip(ours.marks, theirs.marks):
             self.seen[one.kind] += 1
-            if None not in (one.width, other.width):
-                self.seen["width"] += 1
-                self.far["width"] += one.width != other.width
             away = max(abs(one.h - other.h), abs(one.v - other.v))
             if away == 1:
                 self.near[one.kind] += 1
@@ -170,7 +165,7 @@ class Tally:
 
     def shown(self):
         def counts(counter):
-            return ", ".join("%d %s%s" % (counter[kind], kind, "" if counter[kind] == 1 else "s") for kind in ("page", "glyph", "width", "rule", "special") if counter[kind]) or "nothing"
+            return ", ".join("%d %s%s" % (counter[kind], kind, "" if counter[kind] == 1 else "s") for kind in ("page", "glyph", "rule", "special") if counter[kind]) or "nothing"
 
         return "%s; 1 sp off: %s; otherwise: %s" % (counts(self.seen), counts(self.near), counts(self.far))
 

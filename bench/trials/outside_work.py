@@ -49,7 +49,8 @@ class Work:
 
     def bitmap(self, path, page, dots, side):
         """The rows of the bitmap of a page, a square of so many pixels, as numbers whose bits are 1 where it is black."""
-        text = self.run(self.program, "paint", "--page", str(page), "--dpi", str(dots), "--width", str(side), "--height", str(side), path)[1]
+        words = f"paint --page {page} --dpi {dots} --width {side} --height {side}".split()
+        text = self.run(self.program, *words, path)[1]
         digits = text.split("\n", 2)[2].replace("\n", "")
         return [int(digits[i * side:(i + 1) * side], 2) for i in range(side)]
 

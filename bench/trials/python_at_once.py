@@ -21,7 +21,6 @@ import random
 import signal
 import subprocess
 import sys
-import threading
 import time
 
 import boxglue
@@ -233,8 +232,9 @@ def equal_copies(one):
 def copies(given, _workers, rounds):
     ran, _, document, fonts, bitmap = given.wanted
     refused = boxglue.run(BAD)
-    things = [ran, ran.replies, *ran.replies[:COPIED], document, document.pages, document.marks, document.marks[::3], *document.pages[:COPIED], *document.marks[:COPIED], *fonts, bitmap,
-              refused, *refused.refusals, boxglue.OutOfMemory("x"), boxglue.NoSuchPage("x"), boxglue.BadFontName("x"), boxglue.NoJob("x"), document.units]
+    things = [ran, ran.replies, *ran.replies[:COPIED], document, document.pages, document.marks, document.marks[::3]]
+    things += [*document.pages[:COPIED], *document.marks[:COPIED], *fonts, bitmap, refused, *refused.refusals, document.units]
+    things += [getattr(boxglue, it)("x") for it in ("OutOfMemory", "NoSuchPage", "BadFontName", "NoJob")]
     for _ in range(max(rounds // 50, 1)):
         for one in things:
             for other in equal_copies(one):

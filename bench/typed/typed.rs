@@ -4,7 +4,7 @@ use std::fmt::Write;
 use std::time::Instant;
 
 const PAIRS: i32 = 2000;
-const ROUNDS: usize = 60;
+const ROUNDS: usize = 200;
 
 fn by_calls(job: &mut Job) -> Result<(), Error> {
     let mut list = job.hbox(0, Target::Natural)?;

@@ -43,9 +43,9 @@ def with_glibc(path: str) -> str:
 def packages_of(root: str, top: str, kinds: dict[str, str], edition: Edition) -> list[Package]:
     """The packages but for that of Python, of what `./install` puts into Debian's folders."""
     shared, same = f"{LIBRARIES}/libboxglue.so.{edition.number}", "Architecture: amd64\nMulti-Arch: same\n"
-    texts = {it: f"usr/{it}" for it in kinds if it.startswith(("bin/", "share/man/", "share/bash-completion/", "share/fish/"))}
+    texts = {it: f"usr/{it}" for it in kinds if it.startswith(("bin/", "share/man/man1/", "share/bash-completion/", "share/fish/"))}
     examples = {os.path.relpath(f"{root}/examples/{it}", top): f"usr/share/doc/boxglue/examples/{it}" for it in ("first_page.box", "plain.tfm")}
-    others = {it: f"usr/{it}" for it in kinds if it.startswith("include/") or it.endswith((".a", ".pc", ".cmake")) and not it.startswith("share/")}
+    others = {it: f"usr/{it}" for it in kinds if it.startswith(("include/", "share/man/man3/")) or it.endswith((".a", ".pc", ".cmake")) and not it.startswith("share/")}
     return [
         Package("boxglue", "text", with_glibc(f"{top}/bin/boxglue"), "It runs scripts of boxes, glue and text, writes DVI files, and reads them.",
                 {**texts, "share/zsh/site-functions/_boxglue": "usr/share/zsh/vendor-completions/_boxglue", **examples}),
@@ -91,9 +91,9 @@ def stripped(path: str, *words: str) -> None:
 
 
 def put_file(source: str, path: str) -> None:
-    """Copies a file. The manual page is packed, and programs and libraries are stripped."""
+    """Copies a file. Manual pages are packed, and programs and libraries are stripped."""
     data = data_of(source)
-    if path.endswith(".1"):
+    if "/share/man/" in path:
         put(f"{path}.gz", gzip.compress(data, 9, mtime=0), 0o644)
         return
     put(path, data, 0o755 if path.endswith("/bin/boxglue") else 0o644)

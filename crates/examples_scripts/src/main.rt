@@ -1,4 +1,4 @@
-//! The examples of docs/LIBRARY.md, section 1: the program runs each and prints its result.
+//! The examples of docs/LIBRARY.md, section 7.1: the program runs each and prints its result.
 //!
 //! The text of an example is that of docs/LIBRARY.md, word for word, in a file of its own; `tests/run library` compares them.
 #![tactic(auto)]
