@@ -1,6 +1,7 @@
 //! Texts: words with spaces between them.
 
-ghost use Rattle.std.specs.Prelude.{◌≡◌, ◌≢◌, ◌≤◌, ◌<◌, ◌+◌, ◌++◌, ◌∷◌, [], Err, length, take, OnOk, OnErr, IfOk};
+ghost use Rattle.std.specs.Prelude.{◌≡◌, ◌≢◌, ◌≤◌, ◌<◌, ◌+◌, ◌++◌, ◌∷◌, [], Err, length, take, vec_capacity, OnOk, OnErr};
+ghost use Rattle.std.specs.Prelude.{IfOk};
 ghost use Rattle.std.specs.List.{prefix_len};
 ghost use Rattle.node_core.specs.declared.limits.TheConstants.{MAX_ITEMS};
 ghost use Rattle.shape_core.specs.Shaping.{shaped_items, shaped_missing};
@@ -45,6 +46,8 @@ fn shape_part<M: Metrics>(
     ensures front { take (length nodes.old.items) nodes.new.items ≡ nodes.old.items }
     ensures fewer { OnErr result (length nodes.new.items < length nodes.old.items
         + length (part_items slot (M.sizes metrics.now) (M.steps metrics.now) (M.blank metrics.now) (first_part text.now))) }
+    ensures capacity { vec_capacity nodes.old ≤ vec_capacity nodes.new }
+    ensures full { OnErr result (vec_capacity nodes.old ≤ length nodes.new.items) }
 {
     if text[0] == b' ' {
         admit(limit, nodes)?;
@@ -74,6 +77,8 @@ fn shape_parts<M: Metrics>(
     ensures front { take (length nodes.old.items) nodes.new.items ≡ nodes.old.items }
     ensures fewer { OnErr result (length nodes.new.items < length nodes.old.items
         + length (text_items slot (M.sizes metrics.now) (M.steps metrics.now) (M.blank metrics.now) text.now)) }
+    ensures capacity { vec_capacity nodes.old ≤ vec_capacity nodes.new }
+    ensures full { OnErr result (vec_capacity nodes.old ≤ length nodes.new.items) }
 {
     let mut characters = 0;
     while !text.is_empty() {
@@ -87,7 +92,7 @@ fn shape_parts<M: Metrics>(
 /// Appends the items of a text in the font of this slot, and returns how many of its characters the font does not have. Each run of spaces becomes
 /// one glue of the font, and the words between them are shaped. If memory is refused, `nodes` is as it was before the call. A text without items
 /// takes no memory. ListTooLong is answered where memory would have to be taken for an item above `MAX_ITEMS`: shaping ends there, and `nodes` is as
-/// it was before the call.
+/// it was before the call. A vector with space for `MAX_ITEMS` items is never refused memory.
 pub fn shape_text<M: Metrics>(
     metrics: &M,
     slot: u8,
@@ -102,6 +107,7 @@ pub fn shape_text<M: Metrics>(
     ensures growth { OnErr result (text_items slot (M.sizes metrics.now) (M.steps metrics.now) (M.blank metrics.now) text.now ≢ []) }
     ensures too_long { result ≡ Err ShapeFault.ListTooLong → MAX_ITEMS < length nodes.old.items
         + length (text_items slot (M.sizes metrics.now) (M.steps metrics.now) (M.blank metrics.now) text.now) }
+    ensures memory { result ≡ Err ShapeFault.OutOfMemory → vec_capacity nodes.old < MAX_ITEMS }
 {
     let held = nodes.len();
     let alloc = *nodes.allocator();

@@ -1,6 +1,7 @@
 //! Shaping of words.
 
-ghost use Rattle.std.specs.Prelude.{◌≡◌, ◌≢◌, ◌≤◌, ◌<◌, ◌+◌, ◌++◌, ◌∷◌, [], List, None, Some, length, slice_get, take, OnOk, OnErr, IfOk};
+ghost use Rattle.std.specs.Prelude.{◌≡◌, ◌≢◌, ◌≤◌, ◌<◌, ◌+◌, ◌++◌, ◌∷◌, [], List, None, Some, length, slice_get, take, vec_capacity, OnOk, OnErr};
+ghost use Rattle.std.specs.Prelude.{IfOk};
 ghost use Rattle.node_core.specs.declared.tree.Node.{Node};
 ghost use Rattle.shape_core.specs.Private.Fronts.{front_of};
 ghost use Rattle.shape_core.specs.Shaping.{Shaping, glyph_node, outcome_at, outcome_items, outcome_missing, outcome_next, outcome_of, shaped_items};
@@ -91,7 +92,8 @@ fn last_outcome<M: Metrics>(metrics: &M, code: u8) -> Outcome
 /// Refuses an item above the limit where memory would have to be taken for it. There is nearly always space, and then the limit costs nothing.
 #[inline(always)]
 pub(crate) fn admit(limit: usize, nodes: &Vec<Node>) -> Result<(), AllocError>
-    ensures { OnErr result (limit ≤ length nodes.now.items) }
+    ensures limited { OnErr result (limit ≤ length nodes.now.items) }
+    ensures full { OnErr result (vec_capacity nodes.now ≤ length nodes.now.items) }
 {
     if nodes.len() >= nodes.capacity() && nodes.len() >= limit {
         return Err(AllocError);
@@ -104,6 +106,8 @@ pub(crate) fn admit(limit: usize, nodes: &Vec<Node>) -> Result<(), AllocError>
 pub(crate) fn push(node: Node, nodes: &mut Vec<Node>) -> Result<(), AllocError>
     ensures ok { OnOk result (nodes.new.items ≡ nodes.old.items ++ node ∷ []) }
     ensures err { OnErr result (nodes.new.items ≡ nodes.old.items) }
+    ensures capacity { vec_capacity nodes.old ≤ vec_capacity nodes.new }
+    ensures full { OnErr result (vec_capacity nodes.old ≤ length nodes.new.items) }
 {
     if nodes.len() < nodes.capacity() {
         nodes.push_reserved(node);
@@ -153,6 +157,8 @@ impl Outcome {
         ensures ok { OnOk result (nodes.new.items ≡ nodes.old.items ++ outcome_items slot code self.now) }
         ensures front { take (length nodes.old.items) nodes.new.items ≡ nodes.old.items }
         ensures fewer { OnErr result (length nodes.new.items < length nodes.old.items + length (outcome_items slot code self.now)) }
+        ensures capacity { vec_capacity nodes.old ≤ vec_capacity nodes.new }
+        ensures full { OnErr result (vec_capacity nodes.old ≤ length nodes.new.items) }
     {
         match self {
             Outcome::Dropped => Ok(()),
@@ -224,6 +230,8 @@ pub(crate) fn shape_front<M: Metrics>(
     ensures front { take (length nodes.old.items) nodes.new.items ≡ nodes.old.items }
     ensures fewer { OnErr result (length nodes.new.items < length nodes.old.items
         + length (shaped_items slot (M.sizes metrics.now) (M.steps metrics.now) (front_of until_space text.now))) }
+    ensures capacity { vec_capacity nodes.old ≤ vec_capacity nodes.new }
+    ensures full { OnErr result (vec_capacity nodes.old ≤ length nodes.new.items) }
 {
     let mut code = text[0];
     let mut index = 1;

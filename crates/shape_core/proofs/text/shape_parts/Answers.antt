@@ -29,6 +29,7 @@ loop-text-preserved g c =
       text_missing-part _ _ text (take (part_length text) text) _ _ _ _ _ some long part c.split_at.ensures.back c.in_ok-part.ensures.number c.loop-text.invariant.1,
       front_kept _ _ _ _ c.loop-text.invariant.2 c.in_ok-part.ensures.ok,
       omega (arith, c.in_ok-part.ensures.missing_bounded, c.split_at.ensures.back_len, c.loop-text.invariant.3),
+      omega (arith, c.loop-text.invariant.4, c.in_ok-part.ensures.capacity),
     )
 
 pub returns-clause-ok : goal.returns-clause-ok

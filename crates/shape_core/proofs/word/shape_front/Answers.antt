@@ -21,6 +21,7 @@ loop-following-init g c =
       number = omega (arith, front-missing sizes steps c.args.until_space c.args.text.now c.requires);
       front = take_all (length c.args.nodes.now.items) c.args.nodes.now.items (omega arith);
       few = omega arith;
+      capacity = omega arith;
     }
 
 pub loop-following-preserved : goal.loop-following-preserved
@@ -42,6 +43,7 @@ loop-following-preserved g c =
       number = turn-missing sizes steps l.code word l.index _ _ _ _ _ within l.invariant.number outcome c.missing-missing.ensures.value next;
       front = front_kept _ _ _ _ l.invariant.front c.in_ok-append.ensures.ok;
       few = omega (arith, l.invariant.few, c.missing-missing.ensures.missing_bounded);
+      capacity = omega (arith, l.invariant.capacity, c.in_ok-append.ensures.capacity);
     }
 
 pub loop-following-smaller : goal.loop-following-smaller

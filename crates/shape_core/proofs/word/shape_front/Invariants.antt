@@ -1,10 +1,10 @@
-use Rattle.std.proofs.Common.{◌≡◌, ◌+◌, ◌-◌, ◌++◌, ◌<◌, ◌≤◌, drop, length, take}
+use Rattle.std.proofs.Common.{◌≡◌, ◌+◌, ◌-◌, ◌++◌, ◌<◌, ◌≤◌, drop, length, take, vec_capacity}
 use Rattle.shape_core.specs.Private.Fronts.{front_of}
 use Rattle.shape_core.specs.Shaping.{items_from, missing_from, shaped_items, shaped_missing}
 use Rattle.shape_core.proofs.word.shape_front.Given as goal
 
--- The appended items and those of the rest of the word make up the items of the word; fewer characters are missing than were looked at; and the nodes
--- from before the call come first.
+-- The appended items and those of the rest of the word make up the items of the word; fewer characters are missing than were looked at; the nodes
+-- from before the call come first; and the vector has at least the space that it had.
 abbrev pub invariant-loop-following : goal.invariant-loop-following
 invariant-loop-following g l = record {
   some : 0 < l.index;
@@ -15,6 +15,7 @@ invariant-loop-following g l = record {
       ≡ l.missing + missing_from (g.M.Metrics.sizes l.metrics) (g.M.Metrics.steps l.metrics) l.code (drop l.index (front_of l.until_space l.text));
   front : take (length l.initial.nodes.items) l.nodes.items ≡ l.initial.nodes.items;
   few : l.missing < l.index;
+  capacity : vec_capacity l.initial.nodes ≤ vec_capacity l.nodes;
 }
 
 -- Fewer characters are left.
