@@ -16,7 +16,7 @@ from common.trying import rt_try
 TITLE = "the #[test] functions of a crate, by rt try --test"
 
 # Tests that end only if the code is compiled without run-time checks.
-LEFT_OUT = {"tests_jobs": ["many_pages::a_job_ships_256_boxes_of_65536_nodes_and_no_more"]}
+LEFT_OUT = {"tests_jobs_and_sessions": ["many_pages::a_job_ships_256_boxes_of_65536_nodes_and_no_more"]}
 WHY = "no answer within five minutes as rt try compiles it; rt ci runs it"
 
 # Seconds for each test: the longest takes half a minute on a quiet machine, and much more beside other work.
