@@ -15,7 +15,7 @@ use Rattle.boxglue_program.specs.declared.session.SessionFault.TheVariants.{OutO
 use Rattle.boxglue_lib.specs.Ends.{TaskEnd, TellsErrors, TellsOutput, status_of}
 use Rattle.boxglue_lib.specs.Private.Parts.{IsSessionEnd}
 use Rattle.boxglue_lib.specs.Faults.{of_font_file}
-use Rattle.boxglue_lib.specs.Sessions.{EndsSession, HasSession, HoldsOfFile}
+use Rattle.boxglue_lib.specs.Sessions.{EndsSession, HasSession, HoldsOfFile, LeftToFile}
 use Rattle.boxglue_lib.specs.Typesets.{IsUsed, LeavesHost, OutFile, TellsUnwritten}
 use Rattle.boxglue_lib.specs.Views.{HostView, Streams, view_of}
 use Rattle.boxglue_words.specs.declared.fonts.NamedPath.{NamedPath}
@@ -51,12 +51,32 @@ SessionRun input left files reads old new k bytes accepted =
 -- Memory was refused.
 abbrev pub Lacks : (input left : Option (List ℕ)) → List NamedBytes → (reads : Bool) → (old new : Option (List ℕ)) → (k : ℕ) → Option (List ℕ) → Type 0
 Lacks input left files reads old new k bytes =
-    (text answer : List ℕ) × Consumes input left text × LacksSessionMemory written_bytes text files 0 k bytes answer × IsSent true reads old new answer
+    (text answer : List ℕ) × Consumes input left text × (length text ≤ READ_LIMIT)
+    × LacksSessionMemory written_bytes (IsAtEnd left) text files 0 k bytes answer × IsSent true reads old new answer
 
 -- A reading failed.
 abbrev pub Loses : (input left : Option (List ℕ)) → List NamedBytes → (reads : Bool) → (old new : Option (List ℕ)) → (k : ℕ) → Option (List ℕ) → Type 0
 Loses input left files reads old new k bytes =
     (text lost answer : List ℕ) × Consumes input left (text ++ lost) × IsUnreadable READ_LIMIT text lost × IsCutOff written_bytes text files 0 k bytes answer × IsSent true reads old new answer
+
+-- What is known where the whole input was read.
+lacks_where : (Before After : Type 0) (text : List ℕ) (files : List NamedBytes) (k : ℕ) (bytes : Option (List ℕ)) (answer : List ℕ) → (Before → After)
+    → LacksSessionMemory written_bytes Before text files 0 k bytes answer → LacksSessionMemory written_bytes After text files 0 k bytes answer
+lacks_where Before After text files k bytes answer f (inl none) = inl none
+lacks_where Before After text files k bytes answer f (inr (stopped, inl whole)) = inr (stopped, inl whole)
+lacks_where Before After text files k bytes answer f (inr (stopped, inr end)) = inr (stopped, inr (f end))
+
+-- Memory was refused, in terms of the input and of a file.
+left_to_file : (input left : Option (List ℕ)) (files : List NamedBytes) (text answer : List ℕ) (k : ℕ) (bytes : Option (List ℕ)) (file : OutFile)
+    → Consumes input left text → length text ≤ READ_LIMIT → LacksSessionMemory written_bytes (IsAtEnd left) text files 0 k bytes answer
+    → ((Holds : ℕ → Option (List ℕ) → Type 0) → Holds k bytes → HoldsOfFile Holds file) → LeftToFile written_bytes input files file answer
+left_to_file input left files text answer k bytes file taken within lacks known = (
+  text,
+  is_beginning input left text taken,
+  within,
+  known (λ failed bytes_written. LacksSessionMemory written_bytes (IsReading input text) text files 0 failed bytes_written answer)
+      (lacks_where (IsAtEnd left) (IsReading input text) text files k bytes answer (λ end. all_read input left text taken end within) lacks),
+)
 
 -- How a session ended, by its outcome.
 pub session_ends : (input left : Option (List ℕ)) (files : List NamedBytes) (outcome : Result Bool SessionFault) (reads : Bool) (end : TaskEnd) (old new : Option (List ℕ))
@@ -83,16 +103,16 @@ session_ends input left files (Err RefusesMemory) true end old new k bytes file 
     let lack = lacks refl in
     let ended : EndsSession written_bytes input files file (Err OutOfMemory) old new = (
       lack.1,
-      (lack.0, is_beginning input left lack.0 lack.2, known (λ failed bytes_written. LacksSessionMemory written_bytes lack.0 files 0 failed bytes_written lack.1) lack.3),
-      lack.4,
+      left_to_file input left files lack.0 lack.1 k bytes file lack.2 lack.3 lack.4 known,
+      lack.5,
     ) in
     subst (λ (it : TaskEnd). EndsSession written_bytes input files file it old new) (sym is) ended
 session_ends input left files (Err RefusesMemory) false end old new k bytes file is ran lacks loses known =
     let lack = lacks refl in
     let ended : EndsSession written_bytes input files file (Err Unwritten) old new = (
       lack.1,
-      inr (lack.0, is_beginning input left lack.0 lack.2, known (λ failed bytes_written. LacksSessionMemory written_bytes lack.0 files 0 failed bytes_written lack.1) lack.3),
-      lack.4,
+      inr (left_to_file input left files lack.0 lack.1 k bytes file lack.2 lack.3 lack.4 known),
+      lack.5,
     ) in
     subst (λ (it : TaskEnd). EndsSession written_bytes input files file it old new) (sym is) ended
 session_ends input left files (Err LosesInput) reads end old new k bytes file (path, is, dash) ran lacks loses known =

@@ -8,12 +8,13 @@ use Rattle.boxglue_program.specs.Runs.{IsAnsweredInMemory}
 use Rattle.boxglue_program.specs.Sessions.{RanSession, StoppedSession, LacksSessionMemory, IsCutOff}
 use Rattle.boxglue_program.proofs.RunLaws.{script_unsaid}
 use Rattle.boxglue_words.specs.Hosts.{written_to_file}
+use Rattle.boxglue_words.specs.Readings.{IsReading}
 use Rattle.boxglue_words.specs.declared.fonts.NamedPath.{NamedPath}
 use Rattle.boxglue_words.specs.declared.task.Task.{Task}
 use Rattle.boxglue_words.specs.declared.task.Task.TheVariants as tasks
 use Rattle.boxglue_lib.specs.Ends.{EndsOutput, TaskEnd, TaskHasEnded, TaskRules}
 use Rattle.boxglue_lib.specs.Programs.{HasDone, input_rules}
-use Rattle.boxglue_lib.specs.Sessions.{EndsSession, HasSession, HoldsOfFile}
+use Rattle.boxglue_lib.specs.Sessions.{EndsSession, HasSession, HoldsOfFile, LeftToFile}
 use Rattle.boxglue_lib.specs.Typesets.{HasTypeset, IsLeftToFile, IsToFile, LacksMemoryForTask, OutFile, typesetting_rules}
 use Rattle.boxglue_lib.specs.Views.{HostView, Streams}
 use Rattle.boxglue_lib.specs.declared.task_fault.TaskFault.TheVariants.{Unwritten, OutOfMemory, Unreadable, NoSuchPage}
@@ -88,19 +89,26 @@ stopped_unsaid text files n k bytes_written answer stopped = record {
   answer_is = stopped.answer_is;
 }
 
-wanting_unsaid : (text : List ℕ) (files : List NamedBytes) (n k : ℕ) (bytes_written : Option (List ℕ)) (answer : List ℕ)
-    → LacksSessionMemory written_bytes text files n k bytes_written answer → LacksSessionMemory any_bytes text files n k bytes_written answer
-wanting_unsaid text files n k bytes_written answer (inl none) = inl none
-wanting_unsaid text files n k bytes_written answer (inr stopped) = inr (stopped_unsaid text files n k bytes_written answer stopped)
+wanting_unsaid : (AtEnd : Type 0) (text : List ℕ) (files : List NamedBytes) (n k : ℕ) (bytes_written : Option (List ℕ)) (answer : List ℕ)
+    → LacksSessionMemory written_bytes AtEnd text files n k bytes_written answer → LacksSessionMemory any_bytes AtEnd text files n k bytes_written answer
+unfolding stopped_unsaid
+wanting_unsaid AtEnd text files n k bytes_written answer (inl none) = inl none
+wanting_unsaid AtEnd text files n k bytes_written answer (inr (stopped, whole)) =
+    inr (stopped_unsaid text files n k bytes_written answer stopped, whole)
 
 cut_unsaid : (text : List ℕ) (files : List NamedBytes) (n k : ℕ) (bytes_written : Option (List ℕ)) (answer : List ℕ)
     → IsCutOff written_bytes text files n k bytes_written answer → IsCutOff any_bytes text files n k bytes_written answer
 unfolding stopped_unsaid
-cut_unsaid text files n k bytes_written answer (stopped, none) = (stopped_unsaid text files n k bytes_written answer stopped, none)
+cut_unsaid text files n k bytes_written answer (stopped, whole, none) = (stopped_unsaid text files n k bytes_written answer stopped, whole, none)
 
 held_of_file : (P Q : ℕ → Option (List ℕ) → Type 0) (file : OutFile) → ((failed : ℕ) (bytes_written : Option (List ℕ)) → P failed bytes_written → Q failed bytes_written)
     → HoldsOfFile P file → HoldsOfFile Q file
 held_of_file P Q file f (failed, holds, done, used) = (failed, f failed (written_to_file file.created file.written) holds, done, used)
+
+unfinished_unsaid : (input : Option (List ℕ)) (files : List NamedBytes) (file : OutFile) (answer : List ℕ)
+    → LeftToFile written_bytes input files file answer → LeftToFile any_bytes input files file answer
+unfinished_unsaid input files file answer (text, read, within, holds) =
+    (text, read, within, held_of_file _ _ file (λ failed bytes. wanting_unsaid (IsReading input text) text files 0 failed bytes answer) holds)
 
 ended_unsaid : (input : Option (List ℕ)) (files : List NamedBytes) (file : OutFile) (end : TaskEnd) (old new : Option (List ℕ))
     → EndsSession written_bytes input files file end old new → EndsSession any_bytes input files file end old new
@@ -108,10 +116,8 @@ ended_unsaid input files file (Ok fine) old new (answer, (text, read, holds), al
     (answer, (text, read, held_of_file _ _ file (λ failed bytes. session_unsaid text files 0 failed bytes answer fine) holds), all)
 ended_unsaid input files file (Err Unwritten) old new (answer, inl (fine, (text, read, holds)), front) =
     (answer, inl (fine, (text, read, held_of_file _ _ file (λ failed bytes. session_unsaid text files 0 failed bytes answer fine) holds)), front)
-ended_unsaid input files file (Err Unwritten) old new (answer, inr (text, read, holds), front) =
-    (answer, inr (text, read, held_of_file _ _ file (λ failed bytes. wanting_unsaid text files 0 failed bytes answer) holds), front)
-ended_unsaid input files file (Err OutOfMemory) old new (answer, (text, read, holds), all) =
-    (answer, (text, read, held_of_file _ _ file (λ failed bytes. wanting_unsaid text files 0 failed bytes answer) holds), all)
+ended_unsaid input files file (Err Unwritten) old new (answer, inr left, front) = (answer, inr (unfinished_unsaid input files file answer left), front)
+ended_unsaid input files file (Err OutOfMemory) old new (answer, left, all) = (answer, unfinished_unsaid input files file answer left, all)
 ended_unsaid input files file (Err (Unreadable path)) old new (answer, reads, dash, (text, lost, read, unread, holds), sent) =
     (answer, reads, dash, (text, lost, read, unread, held_of_file _ _ file (λ failed bytes. cut_unsaid text files 0 failed bytes answer) holds), sent)
 ended_unsaid input files file (Err NoSuchPage) old new none = none

@@ -1,5 +1,5 @@
 -- Sessions whose pages go to a file (own).
-use Rattle.std.specs.Prelude.{◌≡◌, ◌==◌, ◌⊎◌, ◌++◌, ℕ, Bool, true, List, Option, Ok, Err, codes}
+use Rattle.std.specs.Prelude.{◌≡◌, ◌==◌, ◌⊎◌, ◌++◌, ◌≤◌, ℕ, Bool, true, List, length, Option, Ok, Err, codes}
 use Rattle.std.specs.Io.KnownBytes.{Appends}
 use Rattle.boxglue_words.specs.Hosts.{AreFilesOf, IsUnread, written_to_file}
 use Rattle.boxglue_words.specs.Readings.{Files, IsBeginning, IsReading}
@@ -26,11 +26,12 @@ RanToFile reports input files file answer fine =
     (text : List ℕ) × IsReading input text
     × HoldsOfFile (λ failed bytes_written. RanSession reports text files 0 failed bytes_written answer fine) file
 
--- Memory was refused, and the lines before were run on a file, whose job was not finished.
+-- Memory was refused, and the lines before were run on a file, whose job was not finished. A last line without a line feed was run only if the whole
+-- input was read.
 abbrev pub LeftToFile : Reports → (input : Option (List ℕ)) → List NamedBytes → OutFile → (answer : List ℕ) → Type 0
 LeftToFile reports input files file answer =
-    (text : List ℕ) × IsBeginning input text
-    × HoldsOfFile (λ failed bytes_written. LacksSessionMemory reports text files 0 failed bytes_written answer) file
+    (text : List ℕ) × IsBeginning input text × (length text ≤ READ_LIMIT)
+    × HoldsOfFile (λ failed bytes_written. LacksSessionMemory reports (IsReading input text) text files 0 failed bytes_written answer) file
 
 -- A reading failed, and what was read before was run on a file, whose job was not finished.
 abbrev pub CutOffToFile : Reports → (input : Option (List ℕ)) → List NamedBytes → OutFile → (answer : List ℕ) → Type 0

@@ -22,7 +22,7 @@ use Rattle.boxglue_program.specs.Outcomes.{is_accepting, replies_outcome}
 use Rattle.boxglue_program.specs.Texts.{answer_line, answer_lines, script_refusal_text}
 use Rattle.boxglue_program.specs.Runs.{WritesFront, commands_of, line_numbers}
 use Rattle.boxglue_program.specs.Sessions.{DialogView, AnswersLines, StopsIn, IsSent}
-use Rattle.boxglue_program.specs.Private.Dialogs.{dialog_of, OutboxView, outbox_of, Sends}
+use Rattle.boxglue_program.specs.Private.Dialogs.{dialog_of, OutboxView, outbox_of, Sends, StopsAfterLines}
 use Rattle.boxglue_program.proofs.OutcomeLaws.{accepting_all}
 use Rattle.boxglue_program.proofs.SessionLaws.{answered_both, none_answered, sent_both, sent_none, same_answered}
 
@@ -179,23 +179,27 @@ whole_text text whole rest all split (inl ends) = ends
 whole_text text whole rest all split (inr none) = subst IsWhole (split ∙ (ap (λ (l : List ℕ). whole ++ l) none ∙ append-nil whole)) all
 
 -- What follows whole lines in which it stopped.
-pub stops_further : (text more answers : List ℕ) (old new : DialogView) → IsWhole text → StopsIn text old answers new → StopsIn (text ++ more) old answers new
-stops_further text more answers old new all stops = record {
-  whole = stops.whole;
-  rest = stops.rest ++ more;
-  split = ap (λ (l : List ℕ). l ++ more) stops.split ∙ append_assoc stops.whole stops.rest more;
-  ends = inl (whole_text text stops.whole stops.rest all stops.split stops.ends);
-  ran = stops.ran;
-}
+pub stops_further : (text more answers : List ℕ) (old new : DialogView) → IsWhole text → StopsIn text old answers new → StopsAfterLines (text ++ more) old answers new
+stops_further text more answers old new all stops =
+    let whole = whole_text text stops.whole stops.rest all stops.split stops.ends in (
+      record {
+        whole = stops.whole;
+        rest = stops.rest ++ more;
+        split = ap (λ (l : List ℕ). l ++ more) stops.split ∙ append_assoc stops.whole stops.rest more;
+        ends = inl whole;
+        ran = stops.ran;
+      },
+      whole,
+    )
 
 -- Nothing of a text was run.
-pub stops_at_once : (text : List ℕ) (old : DialogView) → StopsIn text old [] old
-stops_at_once text old = record { whole = []; rest = text; split = refl; ends = inl (inl refl); ran = none_answered old }
+pub stops_at_once : (text : List ℕ) (old : DialogView) → StopsAfterLines text old [] old
+stops_at_once text old = (record { whole = []; rest = text; split = refl; ends = inl (inl refl); ran = none_answered old }, inl refl)
 
 -- All whole lines were run, and what follows was not kept.
-pub stops_at_rest : (whole rest answers : List ℕ) (old now : DialogView) → IsWhole whole → AnswersLines old (lines whole) answers now → StopsIn (whole ++ rest) old answers now
+pub stops_at_rest : (whole rest answers : List ℕ) (old now : DialogView) → IsWhole whole → AnswersLines old (lines whole) answers now → StopsAfterLines (whole ++ rest) old answers now
 stops_at_rest whole rest answers old now ends ran =
-    record { whole = whole; rest = rest; split = refl; ends = inl ends; ran = ran }
+    (record { whole = whole; rest = rest; split = refl; ends = inl ends; ran = ran }, ends)
 
 -- A text was written to a client that reads, or a beginning of it.
 pub sent_by_result : {A E : Type 0} (r : Result A E) (ok : Bool) (old new : Option (List ℕ)) (text : List ℕ) → ok ≡ is_ok r → OnOk r (Appends old new text) → OnErr r (WritesFront old new text) → IsSent true ok old new text

@@ -6,7 +6,7 @@ use Rattle.std.specs.Str.Lines.{lines}
 use Rattle.std.proofs.lemmas.List.{append-nil}
 use Rattle.boxglue_script.specs.LineContents.{IsWhole}
 use Rattle.boxglue_program.specs.Sessions.{IsSent, DialogView, AnswersLines, SessionView, Exchanges, LacksMemory, StopsIn}
-use Rattle.boxglue_program.specs.Private.Dialogs.{IsCutAfterLines}
+use Rattle.boxglue_program.specs.Private.Dialogs.{IsCutAfterLines, StopsAfterLines}
 use Rattle.boxglue_program.proofs.SessionLaws.{none_answered, sent_none}
 use Rattle.boxglue_program.proofs.DialogLaws.{stops_further, stops_at_once, stops_at_rest}
 
@@ -47,7 +47,7 @@ none_taken (Err e) kept more piece whole rest dialog reads old split none is = t
 
 -- Memory was refused before a line was run.
 pub stopped_at_once : {A E : Type 0} (r : Result A E) (text : List ℕ) (dialog : DialogView) (reads : Bool) (old : Option (List ℕ))
-    → OnErr r ((answers : List ℕ) × StopsIn text dialog answers dialog × IsSent reads reads old old answers)
+    → OnErr r ((answers : List ℕ) × StopsAfterLines text dialog answers dialog × IsSent reads reads old old answers)
 stopped_at_once (Ok x) text dialog reads old = tt
 stopped_at_once (Err e) text dialog reads old = ([], stops_at_once text dialog, sent_none reads old)
 
@@ -55,11 +55,11 @@ stopped_at_once (Err e) text dialog reads old = ([], stops_at_once text dialog, 
 pub stopped_within : {A E : Type 0} (r : Result A E) (kept piece whole rest text : List ℕ) (dialog last : DialogView) (reads now : Bool)
     (old new : Option (List ℕ)) → Cut kept piece whole rest text
     → (answers : List ℕ) × StopsIn text dialog answers last × IsSent reads now old new answers
-    → OnErr r ((answers : List ℕ) × StopsIn (kept ++ piece) dialog answers last × IsSent reads now old new answers)
+    → OnErr r ((answers : List ℕ) × StopsAfterLines (kept ++ piece) dialog answers last × IsSent reads now old new answers)
 stopped_within (Ok x) kept piece whole rest text dialog last reads now old new cut stops = tt
 stopped_within (Err e) kept piece whole rest text dialog last reads now old new cut (answers, stops, sent) = (
   answers,
-  subst (λ (l : List ℕ). StopsIn l dialog answers last) (text_and_rest kept piece whole rest text cut)
+  subst (λ (l : List ℕ). StopsAfterLines l dialog answers last) (text_and_rest kept piece whole rest text cut)
       (stops_further text rest answers dialog last (text_whole kept piece whole rest text cut) stops),
   sent,
 )
@@ -85,11 +85,11 @@ lines_taken (Err e) kept piece whole rest text cleared more dialog new reads now
 pub stopped_at_rest : {A E : Type 0} (r : Result A E) (kept piece whole rest text : List ℕ) (dialog new : DialogView) (reads now : Bool)
     (old after : Option (List ℕ)) → Cut kept piece whole rest text
     → (answers : List ℕ) × AnswersLines dialog (lines text) answers new × IsSent reads now old after answers
-    → OnErr r ((answers : List ℕ) × StopsIn (kept ++ piece) dialog answers new × IsSent reads now old after answers)
+    → OnErr r ((answers : List ℕ) × StopsAfterLines (kept ++ piece) dialog answers new × IsSent reads now old after answers)
 stopped_at_rest (Ok x) kept piece whole rest text dialog new reads now old after cut ran = tt
 stopped_at_rest (Err e) kept piece whole rest text dialog new reads now old after cut (answers, ran, sent) = (
   answers,
-  subst (λ (l : List ℕ). StopsIn l dialog answers new) (text_and_rest kept piece whole rest text cut)
+  subst (λ (l : List ℕ). StopsAfterLines l dialog answers new) (text_and_rest kept piece whole rest text cut)
       (stops_at_rest text rest answers dialog new (text_whole kept piece whole rest text cut) ran),
   sent,
 )
@@ -129,8 +129,8 @@ nothing_exchanged old was before same rest =
 
 -- Memory was refused after a piece was read.
 pub space_lacked : (old was new : SessionView) (piece : List ℕ) (before after : Option (List ℕ)) → was ≡ old
-    → (answers : List ℕ) × StopsIn (was.kept ++ piece) was.dialog answers new.dialog × IsSent was.reads new.reads before after answers
+    → (answers : List ℕ) × StopsAfterLines (was.kept ++ piece) was.dialog answers new.dialog × IsSent was.reads new.reads before after answers
     → new.kept ≡ [] → new.left + length piece ≡ was.left → LacksMemory old piece new before after
-space_lacked old was new piece before after same (answers, stops, sent) none left =
+space_lacked old was new piece before after same (answers, (stops, whole), sent) none left =
     subst (λ (s : SessionView). LacksMemory s piece new before after) same
-    (record { answers = answers; stops = stops; sent = sent; kept = none; left = left })
+    (record { answers = answers; stops = stops; whole = whole; sent = sent; kept = none; left = left })

@@ -4,7 +4,7 @@ use Rattle.std.specs.Prelude.{is_ok, IfOk, IfErr, IfSome}
 use Rattle.std.specs.Str.Lines.{lines}
 use Rattle.std.specs.Io.KnownBytes.{Consumes, IsAtEnd, Keeps}
 use Rattle.std.proofs.KnownBytes.{Consumes-nil, Consumes-trans}
-use Rattle.std.proofs.lemmas.List.{append-nil}
+use Rattle.std.proofs.lemmas.List.{append-nil, length-append}
 use Rattle.job_machine.specs.declared.replies.Refusal.{Refusal}
 use Rattle.page_core.specs.declared.summary.Summary.{Summary}
 use Rattle.tfm_core.specs.NamedBytes.{NamedBytes}
@@ -16,7 +16,7 @@ use Rattle.boxglue_program.specs.declared.session.SessionFault.{SessionFault}
 use Rattle.boxglue_program.specs.declared.session.SessionFault.TheVariants.{OutOfMemory, Unreadable}
 use Rattle.boxglue_program.proofs.WritingLemmas.{appends_keeps, keeps_appends}
 use Rattle.boxglue_program.proofs.SessionLaws.{kept_as, keeps_both, sent_both, sent_none}
-use Rattle.boxglue_program.proofs.SessionEnds.{DoneSoFar, done_at_start, done_more, session_ran, session_stopped, session_cut_off}
+use Rattle.boxglue_program.proofs.SessionEnds.{DoneSoFar, done_at_start, done_more, session_ran, session_stopped, session_stopped_whole, session_cut_off}
 
 abbrev fault_of : SessionFault → Result Bool SessionFault
 fault_of fault = Err fault
@@ -130,17 +130,17 @@ run_ended files n k limit start now last input left rest before middle between a
     )
 
 -- The input was read to its end, and memory was refused before the job was finished.
-pub run_unfinished : (files : List NamedBytes) (n k : ℕ) (start now last : SessionView)
+pub run_unfinished : (files : List NamedBytes) (n k limit : ℕ) (start now last : SessionView)
     (input left rest before middle between after bytes_written : Option (List ℕ)) (outcome : Result Bool SessionFault) (written : Bool)
-    → IsNewSession files n start → InSession start now input left before middle
+    → IsNewSession files n start → start.left ≡ limit → InSession start now input left before middle
     → (last ≡ now) × Consumes left rest [] × IsAtEnd rest × Keeps middle between
     → IfErr outcome (λ fault. (fault ≡ OutOfMemory) × (answers : List ℕ) × (ended : DialogView) × StopsIn last.kept last.dialog answers ended
     × IsSent last.reads written between after answers × (k ≡ ended.job.failed) × (bytes_written ≡ ended.job.bytes_written))
-    → outcome ≡ Err OutOfMemory → (text answer : List ℕ) × Consumes input rest text × LacksSessionMemory written_bytes text files n k bytes_written answer
-    × IsSent true written before after answer
-run_unfinished files n k start now last input left rest before middle between after bytes_written (Ok accepted) written new so_far at_end lacks
-    wants = absurd (cc)
-run_unfinished files n k start now last input left rest before middle between after bytes_written (Err fault) written new so_far
+    → outcome ≡ Err OutOfMemory → (text answer : List ℕ) × Consumes input rest text × (length text ≤ limit)
+    × LacksSessionMemory written_bytes (IsAtEnd rest) text files n k bytes_written answer × IsSent true written before after answer
+run_unfinished files n k limit start now last input left rest before middle between after bytes_written (Ok accepted) written new limited so_far
+    at_end lacks wants = absurd (cc)
+run_unfinished files n k limit start now last input left rest before middle between after bytes_written (Err fault) written new limited so_far
     (same, none, end, kept) (is, others, ended, stops, sent, count, bytes) wants =
     let stops_now : StopsIn now.kept now.dialog others ended = subst (λ (s : SessionView). StopsIn s.kept s.dialog others ended) same stops in
     let sent_now : IsSent now.reads written between after others =
@@ -149,8 +149,12 @@ run_unfinished files n k start now last input left rest before middle between af
       so_far.text,
       so_far.answers ++ others,
       all_read start now input left rest before middle so_far none,
-      inr (session_stopped files n start now so_far.text so_far.text now.kept so_far.answers others before middle ended new so_far.done
-          so_far.done.split stops_now),
+      omega (arith, so_far.done.left, limited),
+      inr (
+        session_stopped files n start now so_far.text so_far.text now.kept so_far.answers others before middle ended new so_far.done
+            so_far.done.split stops_now,
+        inr end,
+      ),
       all_sent files n start now input left before middle after written others new so_far
           (kept_sent now.reads written middle between after others kept sent_now),
     )
@@ -184,24 +188,26 @@ pub returned_silent : {D : Type 0} (bytes_written : D → Option (List ℕ)) (de
 returned_silent bytes_written device back same silent = rw same silent
 
 -- Memory was refused after a reading.
-pub run_lacks_space : (files : List NamedBytes) (n k : ℕ) (start now last : SessionView)
+pub run_lacks_space : (files : List NamedBytes) (n k limit : ℕ) (start now last : SessionView)
     (input left rest before middle after bytes_written : Option (List ℕ)) (outcome : Result Bool SessionFault) (fault : SessionFault) (written : Bool)
-    → IsNewSession files n start → InSession start now input left before middle
+    → IsNewSession files n start → start.left ≡ limit → InSession start now input left before middle
     → (fault ≡ OutOfMemory → (piece : List ℕ) × Consumes left rest piece × LacksMemory now piece last middle after)
     → outcome ≡ Err fault → written ≡ last.reads → k ≡ last.dialog.job.failed → bytes_written ≡ last.dialog.job.bytes_written
-    → outcome ≡ Err OutOfMemory → (text answer : List ℕ) × Consumes input rest text × LacksSessionMemory written_bytes text files n k bytes_written answer
-    × IsSent true written before after answer
-run_lacks_space files n k start now last input left rest before middle after bytes_written outcome fault written new so_far space is as_reported count
-    bytes wants =
+    → outcome ≡ Err OutOfMemory → (text answer : List ℕ) × Consumes input rest text × (length text ≤ limit)
+    × LacksSessionMemory written_bytes (IsAtEnd rest) text files n k bytes_written answer × IsSent true written before after answer
+run_lacks_space files n k limit start now last input left rest before middle after bytes_written outcome fault written new limited so_far space is
+    as_reported count bytes wants =
     let (piece, consumed, lacks) = space (same_fault (sym is ∙ wants)) in
     let split : so_far.text ++ piece ≡ so_far.done.whole ++ (now.kept ++ piece) =
     ap (λ (l : List ℕ). l ++ piece) so_far.done.split ∙ append_assoc so_far.done.whole now.kept piece in
+    let stopped = session_stopped_whole files n start now so_far.text (so_far.text ++ piece) (now.kept ++ piece) so_far.answers lacks.answers before
+    middle last.dialog new so_far.done split lacks.stops lacks.whole in
     rw (as_reported, count, bytes) (
       so_far.text ++ piece,
       so_far.answers ++ lacks.answers,
       Consumes-trans input left rest so_far.text piece so_far.read consumed,
-      inr (session_stopped files n start now so_far.text (so_far.text ++ piece) (now.kept ++ piece) so_far.answers lacks.answers before middle
-          last.dialog new so_far.done split lacks.stops),
+      omega (arith, so_far.done.left, lacks.left, limited, length-append so_far.text piece),
+      inr (stopped.0, inl stopped.1),
       all_sent files n start now input left before middle after last.reads lacks.answers new so_far lacks.sent,
     )
 
@@ -242,12 +248,12 @@ run_not_ended files n k limit start now input left before after bytes_written ou
     (λ _. (refl, [], Consumes-nil left, omega arith, λ some. absurd (some refl), kept_as after)) is as_reported count bytes is
 
 -- Memory was refused before the first reading.
-pub run_not_begun : (files : List NamedBytes) (n k : ℕ) (input before bytes_written : Option (List ℕ)) → k ≡ n
+pub run_not_begun : (files : List NamedBytes) (n k limit : ℕ) (input before bytes_written : Option (List ℕ)) → k ≡ n
     → IfSome bytes_written (λ bytes. bytes ≡ [])
-    → (text answer : List ℕ) × Consumes input input text × LacksSessionMemory written_bytes text files n k bytes_written answer
-    × IsSent true true before before answer
-run_not_begun files n k input before bytes_written same silent =
-    ([], [], Consumes-nil input, inl (record { silent = silent; failed_is = same }, refl, refl), sent_none true before)
+    → (text answer : List ℕ) × Consumes input input text × (length text ≤ limit)
+    × LacksSessionMemory written_bytes (IsAtEnd input) text files n k bytes_written answer × IsSent true true before before answer
+run_not_begun files n k limit input before bytes_written same silent =
+    ([], [], Consumes-nil input, omega arith, inl (record { silent = silent; failed_is = same }, refl, refl), sent_none true before)
 
 -- A session that stops for a fault has the past that its device had at the beginning.
 pub began_stays : (start now new : SessionView) (input left rest before middle after : Option (List ℕ)) (fault : SessionFault)

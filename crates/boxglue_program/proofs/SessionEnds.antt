@@ -143,13 +143,25 @@ session_stopped files n start now text all more answers others before after last
     (answered_both start.dialog now.dialog last (lines done.whole) (lines stops.whole) answers others done.ran stops.ran))
     refl
 
+-- It stopped after whole lines of what followed.
+pub session_stopped_whole : (files : List NamedBytes) (n : ℕ) (start now : SessionView) (text all more answers others : List ℕ)
+    (before after : Option (List ℕ)) (last : DialogView)
+    → IsNewSession files n start → (done : DoneSoFar start now text answers before after) → all ≡ done.whole ++ more
+    → (stops : StopsIn more now.dialog others last) → IsWhole stops.whole
+    → (stopped : StoppedSession written_bytes all files n last.job.failed last.job.bytes_written (answers ++ others)) × IsWhole stopped.whole
+unfolding session_stopped stopped_after
+session_stopped_whole files n start now text all more answers others before after last new done is stops whole = (
+  session_stopped files n start now text all more answers others before after last new done is stops,
+  both_whole done.whole stops.whole done.ends whole,
+)
+
 -- It stopped between two readings.
 pub session_cut_off : (files : List NamedBytes) (n : ℕ) (start now : SessionView) (text answers : List ℕ) (before after : Option (List ℕ))
     → IsNewSession files n start → DoneSoFar start now text answers before after
     → IsCutOff written_bytes text files n now.dialog.job.failed now.dialog.job.bytes_written answers
 unfolding stopped_after
 session_cut_off files n start now text answers before after new done =
-    (stopped_after files n start text done.whole now.kept answers now.dialog now.dialog.job new done.split (inl done.ends) done.ran refl, done.rest)
+    (stopped_after files n start text done.whole now.kept answers now.dialog now.dialog.job new done.split (inl done.ends) done.ran refl, done.ends, done.rest)
 
 contains_no : (byte : ℕ) (bytes : List ℕ) → (byte ≡ 10 → ⊥) → (Contains bytes 10 → ⊥) → Contains (byte ∷ bytes) 10 → ⊥
 contains_no byte bytes other none (zero, inside, is) = other is

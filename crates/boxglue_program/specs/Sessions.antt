@@ -92,10 +92,11 @@ pub record StopsIn (text : List ℕ) (old : DialogView) (answers : List ℕ) (ne
   pub ends : IsWhole whole ⊎ (rest ≡ [])
   pub ran : AnswersLines old (lines whole) answers new
 
--- Memory was refused after a piece was read. What was not run of it is lost, with the bytes that were kept.
+-- Memory was refused after a piece was read. Only whole lines were run. What was not run is lost, with the bytes that were kept.
 pub record LacksMemory (old : SessionView) (piece : List ℕ) (new : SessionView) (before after : Option (List ℕ)) : Type 0 where
   pub answers : List ℕ
   pub stops : StopsIn (old.kept ++ piece) old.dialog answers new.dialog
+  pub whole : IsWhole stops.whole
   pub sent : IsSent old.reads new.reads before after answers
   pub kept : new.kept ≡ []
   pub left : new.left + length piece ≡ old.left
@@ -147,11 +148,13 @@ pub record StoppedSession (reports : Reports) (text : List ℕ) (files : List Na
   pub sent : reports.HasStopped machine bytes_written
   pub answer_is : answer ≡ session_text 1 said replies
 
--- Memory was refused: before anything was run, or later.
-abbrev pub LacksSessionMemory : Reports → (text : List ℕ) → (files : List NamedBytes) → (n k : ℕ) → (bytes_written : Option (List ℕ))
-    → (answer : List ℕ) → Type 0
-LacksSessionMemory reports text files n k bytes_written answer =
-    (IsUntouched n k bytes_written × (text ≡ []) × (answer ≡ [])) ⊎ StoppedSession reports text files n k bytes_written answer
+-- Memory was refused: before anything was run, or later. A line without a line feed was run only at the end of the input, and AtEnd says that this
+-- text is the whole input.
+abbrev pub LacksSessionMemory : Reports → (AtEnd : Type 0) → (text : List ℕ) → (files : List NamedBytes) → (n k : ℕ)
+    → (bytes_written : Option (List ℕ)) → (answer : List ℕ) → Type 0
+LacksSessionMemory reports AtEnd text files n k bytes_written answer =
+    (IsUntouched n k bytes_written × (text ≡ []) × (answer ≡ []))
+    ⊎ ((stopped : StoppedSession reports text files n k bytes_written answer) × (IsWhole stopped.whole ⊎ AtEnd))
 
 -- What was read of an input before a reading failed, and what was lost by it: nothing, or one piece that is over the limit.
 pub record IsUnreadable (limit : ℕ) (text lost : List ℕ) : Type 0 where
@@ -159,8 +162,8 @@ pub record IsUnreadable (limit : ℕ) (text lost : List ℕ) : Type 0 where
   pub piece : length lost ≤ 65536
   pub over : lost ≢ [] → limit < length text + length lost
 
--- A session stopped at the end of what could be read: all whole lines of it were run and answered.
+-- A session stopped at the end of what could be read: all whole lines of it were run and answered. A line that was cut off was not run.
 abbrev pub IsCutOff : Reports → (text : List ℕ) → (files : List NamedBytes) → (n k : ℕ) → (bytes_written : Option (List ℕ)) → (answer : List ℕ)
     → Type 0
 IsCutOff reports text files n k bytes_written answer =
-    (stopped : StoppedSession reports text files n k bytes_written answer) × (Contains stopped.rest 10 → ⊥)
+    (stopped : StoppedSession reports text files n k bytes_written answer) × IsWhole stopped.whole × (Contains stopped.rest 10 → ⊥)

@@ -10,8 +10,8 @@ ghost use Rattle.dvi_write.specs.Writing.{IsDeviceOf};
 ghost use Rattle.job_core.specs.Jobs.{writing_of};
 ghost use Rattle.boxglue_script.specs.LineContents.{IsWhole};
 ghost use Rattle.boxglue_program.specs.Reports.{written_bytes};
-ghost use Rattle.boxglue_program.specs.Sessions.{AnswersLines, RanSession, LacksSessionMemory, IsUnreadable, IsCutOff, IsSent, StopsIn};
-ghost use Rattle.boxglue_program.specs.Private.Dialogs.{IsCutAfterLines};
+ghost use Rattle.boxglue_program.specs.Sessions.{AnswersLines, RanSession, LacksSessionMemory, IsUnreadable, IsCutOff, IsSent};
+ghost use Rattle.boxglue_program.specs.Private.Dialogs.{IsCutAfterLines, StopsAfterLines};
 
 use crate::dialog::{Dialog, OUTBOX_SIZE, Outbox};
 use job_core::{Device, FontFile, Job};
@@ -133,7 +133,7 @@ fn take_piece<D: Device, W: Write>(
         × AnswersLines dialog.old (lines whole) answers dialog.new
         × IsSent outbox.old.reads outbox.new.reads (W.contents writer.old) (W.contents writer.new) answers) }
     ensures stopped { OnErr result ((answers : List ℕ)
-        × StopsIn (kept.old.items ++ piece.now) dialog.old answers dialog.new
+        × StopsAfterLines (kept.old.items ++ piece.now) dialog.old answers dialog.new
         × IsSent outbox.old.reads outbox.new.reads (W.contents writer.old) (W.contents writer.new) answers) }
     ensures emptied { outbox.new.waiting.items ≡ [] }
     ensures rest { Contains kept.new.items 10 → ⊥ }
@@ -323,8 +323,9 @@ pub fn run_session<D: Device, R: Read, W: Write>(
         × RanSession written_bytes text files.now (D.failed device) (D.failed result.device) (D.bytes_written result.device) answer accepted
         × IsSent true result.written (W.contents writer.old) (W.contents writer.new) answer) }
     ensures memory { result.outcome ≡ Err SessionFault.OutOfMemory
-        → (text answer : List ℕ) × Consumes (R.remaining reader.old) (R.remaining reader.new) text
-        × LacksSessionMemory written_bytes text files.now (D.failed device) (D.failed result.device) (D.bytes_written result.device) answer
+        → (text answer : List ℕ) × Consumes (R.remaining reader.old) (R.remaining reader.new) text × (length text ≤ limit)
+        × LacksSessionMemory written_bytes (IsAtEnd (R.remaining reader.new)) text files.now (D.failed device) (D.failed result.device)
+        (D.bytes_written result.device) answer
         × IsSent true result.written (W.contents writer.old) (W.contents writer.new) answer }
     ensures unreadable { result.outcome ≡ Err SessionFault.Unreadable → (text lost answer : List ℕ)
         × Consumes (R.remaining reader.old) (R.remaining reader.new) (text ++ lost) × IsUnreadable limit text lost

@@ -56,6 +56,8 @@ fn a_session_over_its_limit(rt: HostRuntime) {
         (39, 40, b"".as_slice()),
         // The third line is over the limit.
         (30, 6, b"1: ok\n2: ok\n".as_slice()),
+        // The third line is cut off before its line feed, and is not run.
+        (32, 4, b"1: ok\n2: ok\n".as_slice()),
         // Seven readings bring seven bytes, and no line.
         (7, 1, b"".as_slice()),
         // Seven readings bring one line, and the next one is over the limit.

@@ -4,7 +4,7 @@ use Rattle.std.specs.Coded.{Coded, code_by, coded×, coded_ℕ, coded_bool, code
 use Rattle.job_core.specs.Jobs.{JobView}
 use Rattle.job_core.specs.Private.JobViewCode.{coded_job_view}
 use Rattle.boxglue_script.specs.LineContents.{IsWhole}
-use Rattle.boxglue_program.specs.Sessions.{DialogView, SessionView, IsSent}
+use Rattle.boxglue_program.specs.Sessions.{DialogView, SessionView, IsSent, StopsIn}
 
 -- A dialog by its parts.
 abbrev pub dialog_of : JobView → ℕ → Bool → DialogView
@@ -34,6 +34,10 @@ pub record IsCutAfterLines (piece whole rest : List ℕ) : Type 0 where
   pub split : piece ≡ whole ++ rest
   pub ends : IsWhole whole
   pub unended : Contains rest 10 → ⊥
+
+-- Some whole lines of a text were run.
+abbrev pub StopsAfterLines : (text : List ℕ) → (old : DialogView) → (answers : List ℕ) → (new : DialogView) → Type 0
+StopsAfterLines text old answers new = (stops : StopsIn text old answers new) × IsWhole stops.whole
 
 -- How the logic stores the view of a dialog.
 abbrev pub coded_dialog : Coded DialogView

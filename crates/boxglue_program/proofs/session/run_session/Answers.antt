@@ -9,7 +9,8 @@ use Rattle.boxglue_program.proofs.session.run_session.Goals as goal
 pub returns-in-Err-clause-memory : goal.returns-in-Err-clause-memory
 returns-in-Err-clause-memory g c =
     let same = c.in-Err.ensures.device_returned in
-    λ _. run_not_begun c.args.files.now (g.D.Device.failed c.args.device) (g.D.Device.failed c.in-Err.device) (g.R.Read.remaining c.args.reader.now) (g.W.Write.contents c.args.writer.now)
+    λ _. run_not_begun c.args.files.now (g.D.Device.failed c.args.device) (g.D.Device.failed c.in-Err.device) c.args.limit (g.R.Read.remaining c.args.reader.now)
+    (g.W.Write.contents c.args.writer.now)
     (g.D.Device.bytes_written c.in-Err.device) (ap g.D.Device.failed same) (returned_silent g.D.Device.bytes_written c.args.device c.in-Err.device same c.requires.fresh)
 
 pub loop-init : goal.loop-init
@@ -31,10 +32,10 @@ returns-in-Ok-End-clause-ran g c =
 
 pub returns-in-Ok-End-clause-memory : goal.returns-in-Ok-End-clause-memory
 returns-in-Ok-End-clause-memory g c =
-    run_unfinished c.args.files.now (g.D.Device.failed c.args.device) (g.D.Device.failed c.finish.result.device) c.in-Ok.session c.loop.session c.exchange.new.self
+    run_unfinished c.args.files.now (g.D.Device.failed c.args.device) (g.D.Device.failed c.finish.result.device) c.args.limit c.in-Ok.session c.loop.session c.exchange.new.self
     (g.R.Read.remaining c.args.reader.now) (g.R.Read.remaining c.loop.reader) (g.R.Read.remaining c.exchange.new.reader)
     (g.W.Write.contents c.args.writer.now) (g.W.Write.contents c.loop.writer) (g.W.Write.contents c.exchange.new.writer) (g.W.Write.contents c.finish.new.writer)
-    (g.D.Device.bytes_written c.finish.result.device) c.finish.result.outcome c.finish.result.written c.in-Ok.ensures.new c.loop.invariant
+    (g.D.Device.bytes_written c.finish.result.device) c.finish.result.outcome c.finish.result.written c.in-Ok.ensures.new c.in-Ok.ensures.limited c.loop.invariant
     (c.exchange.ensures.end (ok_at c.in-Ok-End.is c.in-Ok-End.field-0-is)) c.finish.ensures.memory
 
 pub returns-in-Ok-End-clause-unreadable : goal.returns-in-Ok-End-clause-unreadable
@@ -44,11 +45,11 @@ returns-in-Ok-End-clause-unreadable g c = λ is.
 
 pub returns-in-Err-exchange-clause-memory : goal.returns-in-Err-exchange-clause-memory
 returns-in-Err-exchange-clause-memory g c =
-    run_lacks_space c.args.files.now (g.D.Device.failed c.args.device) (g.D.Device.failed c.stop.result.device) c.in-Ok.session c.loop.session
+    run_lacks_space c.args.files.now (g.D.Device.failed c.args.device) (g.D.Device.failed c.stop.result.device) c.args.limit c.in-Ok.session c.loop.session
     c.exchange.new.self
     (g.R.Read.remaining c.args.reader.now) (g.R.Read.remaining c.loop.reader) (g.R.Read.remaining c.exchange.new.reader)
     (g.W.Write.contents c.args.writer.now) (g.W.Write.contents c.loop.writer) (g.W.Write.contents c.exchange.new.writer)
-    (g.D.Device.bytes_written c.stop.result.device) c.stop.result.outcome c.in-Err-exchange.fault c.stop.result.written c.in-Ok.ensures.new c.loop.invariant
+    (g.D.Device.bytes_written c.stop.result.device) c.stop.result.outcome c.in-Err-exchange.fault c.stop.result.written c.in-Ok.ensures.new c.in-Ok.ensures.limited c.loop.invariant
     (λ same. c.exchange.ensures.memory (err_at c.in-Err-exchange.is same)) c.stop.ensures.outcome c.stop.ensures.written c.stop.ensures.device.failed c.stop.ensures.device.bytes_written
 
 pub returns-in-Err-exchange-clause-unreadable : goal.returns-in-Err-exchange-clause-unreadable
