@@ -1,6 +1,6 @@
 //! The texts of refusals: the number and the name of each, for answers to commands and for DVI files.
 
-ghost use Rattle.std.specs.Prelude.{◌≡◌, ◌≤◌, ◌++◌, decimal, length, take, OnOk, OnErr};
+ghost use Rattle.std.specs.Prelude.{◌≡◌, ◌≤◌, ◌+◌, ◌++◌, decimal, length, take, OnOk, OnErr, vec_capacity, vec_len};
 ghost use Rattle.scaled_core.specs.Spaces.{TakesSpace};
 ghost use Rattle.boxglue_program.specs.Texts.{refusal_row, metric_refusal_name, refusal_text, refusal_line};
 
@@ -52,13 +52,31 @@ pub fn refusal_row(refusal: Refusal) -> (u32, &'static str)
     }
 }
 
+/// Appends bytes for which there is space. Most texts are short and known where this is called: written byte by byte, they become a few stores, where
+/// a copy would be a call.
+#[inline(always)]
+fn put_bytes(bytes: &[u8], out: &mut Vec<u8>)
+    requires space { vec_len out.old + length bytes.now ≤ vec_capacity out.old }
+    ensures items { out.new.items ≡ out.old.items ++ bytes.now }
+    ensures len { vec_len out.new ≡ vec_len out.old + length bytes.now }
+    ensures capacity { vec_capacity out.new ≡ vec_capacity out.old }
+{
+    for byte in bytes {
+        out.push_reserved(*byte);
+    }
+}
+
 /// Appends a text. If memory is refused, nothing was appended, and there was no space for the text.
+#[inline(always)]
 pub fn push_text(text: &str, out: &mut Vec<u8>) -> Result<(), AllocError>
     ensures ok { OnOk result (out.new.items ≡ out.old.items ++ text.now) }
     ensures err { OnErr result (out.new.items ≡ out.old.items) }
     ensures space { TakesSpace (length text.now) out.old out.new result }
 {
-    out.extend_from_slice(text.as_bytes())
+    let bytes = text.as_bytes();
+    out.reserve(bytes.len())?;
+    put_bytes(bytes, out);
+    Ok(())
 }
 
 /// Appends a number in decimal. If memory is refused, nothing was appended, and there was no space for a number.
@@ -68,7 +86,7 @@ pub fn push_number(number: u64, out: &mut Vec<u8>) -> Result<(), AllocError>
     ensures space { TakesSpace 40 out.old out.new result }
 {
     let mut buffer = Buffer::new();
-    out.extend_from_slice(buffer.format(number).as_bytes())
+    push_text(buffer.format(number), out)
 }
 
 /// Appends a refusal with its number and name; if memory is refused, only the beginning of it.

@@ -20,10 +20,10 @@ ghost use Rattle.boxglue_program.specs.Runs.{commands_of, line_numbers, fault_vi
 ghost use Rattle.boxglue_program.specs.Runs.{IsAnsweredOverRest, IsLeftOverRest};
 
 use crate::outcome::Outcome;
-use crate::texts::{push_answer_line, push_end_line, script_refusal_text};
+use crate::texts::{push_answer_line, push_done, push_end_line, script_refusal_text};
 use crate::writing::{UnwrittenText, write_text};
 use boxglue_script::{Line, LineBlocks, ScriptFault, read_blocks};
-use job_core::{Device, FontFile, Job, Refusal, Reply, Rest, Summary};
+use job_core::{Answer, Device, FontFile, Job, Refusal, Reply, Rest, Summary};
 use std::alloc::Global;
 use std::io::Write;
 use std::mem::replace;
@@ -296,7 +296,9 @@ pub fn run_lines<D: Device>(job: &mut Job<D>, lines: &[Line], answers: &mut Vec<
 
 /// Appends an answer if those before it are there. Returns whether it is there too.
 ///
-/// The text is moved here while it grows: as a value of this call its length is not written back after each of the many short pieces.
+/// Most answers are `ok`, and are appended as one piece. For another one the text is moved here while it grows: as a value of this call its length is
+/// not written back after each of the many short pieces.
+#[tactic(auto, unfolding(crate::specs::Texts::answer_line, crate::specs::Texts::answer_text))]
 fn push_next_answer(kept: bool, number: usize, reply: &Reply, answers: &mut Vec<u8>) -> bool
     ensures ok { result ≡ true → (kept ≡ true) × (answers.new.items ≡ answers.old.items ++ answer_line number reply.now) }
     ensures cut { result ≡ false → answers.new.items ≡ answers.old.items }
@@ -306,6 +308,9 @@ fn push_next_answer(kept: bool, number: usize, reply: &Reply, answers: &mut Vec<
 {
     if !kept {
         return false;
+    }
+    if let Ok(Answer::Done) = reply {
+        return push_done(number as u64, answers).is_ok();
     }
     let alloc = *answers.allocator();
     let mut text = replace(answers, Vec::new(alloc));

@@ -54,7 +54,7 @@ pub fn push_signed(number: i64, out: &mut Vec<u8>) -> Result<(), AllocError>
     ensures space { TakesSpace 40 out.old out.new result }
 {
     let mut buffer = Buffer::new();
-    out.extend_from_slice(buffer.format(number).as_bytes())
+    push_text(buffer.format(number), out)
 }
 
 /// Appends width, height and depth, each in points. If memory is refused, here and in the functions below, a beginning of the text may have been
@@ -239,7 +239,7 @@ fn push_reply(reply: &Reply, out: &mut Vec<u8>) -> Result<(), AllocError>
 }
 
 /// Appends the line `N: ok` as one piece, with the digits before a text that is there.
-fn push_done(number: u64, out: &mut Vec<u8>) -> Result<(), AllocError>
+pub(crate) fn push_done(number: u64, out: &mut Vec<u8>) -> Result<(), AllocError>
     ensures ok { OnOk result (out.new.items ≡ out.old.items ++ (decimal number ++ (codes ": ok" ++ line_feed))) }
     ensures err { OnErr result (out.new.items ≡ out.old.items) }
     ensures space { TakesSpace 25 out.old out.new result }
@@ -260,9 +260,8 @@ fn push_line_number(number: u64, out: &mut Vec<u8>) -> Result<(), AllocError>
     out.extend_from_slice(&text[start..])
 }
 
-/// Appends the line that answers the line of a script with this number. If memory is refused, nothing was appended, as space is taken first. Most
-/// answers are `ok`, so this one is appended as one piece.
-#[tactic(auto, unfolding(crate::specs::Texts::answer_line, crate::specs::Texts::answer_text))]
+/// Appends the line that answers the line of a script with this number. If memory is refused, nothing was appended, as space is taken first.
+#[tactic(auto, unfolding(crate::specs::Texts::answer_line))]
 pub(crate) fn push_answer_line(
     number: usize,
     reply: &Reply,
@@ -273,9 +272,6 @@ pub(crate) fn push_answer_line(
     ensures space { TakesSpace 512 out.old out.new result }
 {
     out.reserve(ANSWER_SIZE)?;
-    if let Ok(Answer::Done) = reply {
-        return push_done(number as u64, out);
-    }
     push_line_number(number as u64, out)?;
     push_reply(reply, out)?;
     push_text("\n", out)
