@@ -9,6 +9,8 @@ pub mod PageLaws
 pub mod WrittenParts
 pub mod RowSteps
 pub mod RunLaws
+pub mod ShortNames
+pub mod StepCounts
 pub mod StatusLaws
 pub mod Crossing
 pub mod HandedBytes
