@@ -15,8 +15,20 @@ import os
 DOCS = os.path.join(os.path.dirname(os.path.dirname(os.path.abspath(__file__))), "docs")
 # The data of the runs that docs/SPEED.md shows.
 KNOWN = [os.path.join(DOCS, name) for name in ("speed.tsv", "speed_large.tsv")]
-COLOURS = {"boxglue": "#0b62a4", "tex": "#b5532a", "time": "#0b62a4", "instructions": "#5a9bd0", "D1 misses": "#d9a441", "memory": "#a9b4bd"}
-RATIOS = (("time", "seconds"), ("instructions", "instructions"), ("D1 misses", "misses"), ("memory", "memory"))
+COLOURS = {
+    "boxglue": "#0b62a4",
+    "tex": "#b5532a",
+    "time": "#0b62a4",
+    "instructions": "#5a9bd0",
+    "D1 misses": "#d9a441",
+    "memory": "#a9b4bd",
+}
+RATIOS = (
+    ("time", "seconds"),
+    ("instructions", "instructions"),
+    ("D1 misses", "misses"),
+    ("memory", "memory"),
+)
 INK, FAINT, GRID = "#222222", "#666666", "#dddddd"
 
 
@@ -51,7 +63,9 @@ class Figures:
         """The figure of boxglue divided by that of a peer, or of its first one, or None."""
         row = self.rows[case]
         peer = row[program] if program else self.peer(case)
-        known = peer and peer["program"] != "boxglue" and row["boxglue"].get(what) and peer.get(what)
+        known = (
+            peer and peer["program"] != "boxglue" and row["boxglue"].get(what) and peer.get(what)
+        )
         return float(row["boxglue"][what]) / float(peer[what]) if known else None
 
 
@@ -59,21 +73,39 @@ class Svg:
     """A picture that is being drawn."""
 
     def __init__(self, width, height, title):
-        self.parts = ['<svg xmlns="http://www.w3.org/2000/svg" width="%d" height="%d" viewBox="0 0 %d %d" font-family="Helvetica, Arial, sans-serif" font-size="12" role="img">' % (width, height, width, height),
-            "<title>%s</title>" % html.escape(title), '<rect width="100%" height="100%" fill="white"/>']
+        self.parts = [
+            '<svg xmlns="http://www.w3.org/2000/svg" width="%d" height="%d" viewBox="0 0 %d %d" font-family="Helvetica, Arial, sans-serif" font-size="12" role="img">'
+            % (width, height, width, height),
+            "<title>%s</title>" % html.escape(title),
+            '<rect width="100%" height="100%" fill="white"/>',
+        ]
 
     def text(self, x, y, words, anchor="start", colour=INK, size=12, weight="normal"):
-        self.parts.append('<text x="%.1f" y="%.1f" text-anchor="%s" fill="%s" font-size="%d" font-weight="%s" stroke="white" stroke-width="3" paint-order="stroke">%s</text>' % (x, y, anchor, colour, size, weight, html.escape(words)))
+        self.parts.append(
+            '<text x="%.1f" y="%.1f" text-anchor="%s" fill="%s" font-size="%d" font-weight="%s" stroke="white" stroke-width="3" paint-order="stroke">%s</text>'
+            % (x, y, anchor, colour, size, weight, html.escape(words))
+        )
 
     def line(self, x1, y1, x2, y2, colour=GRID, width=1, dash=""):
-        self.parts.append('<line x1="%.1f" y1="%.1f" x2="%.1f" y2="%.1f" stroke="%s" stroke-width="%g" stroke-dasharray="%s"/>' % (x1, y1, x2, y2, colour, width, dash))
+        self.parts.append(
+            '<line x1="%.1f" y1="%.1f" x2="%.1f" y2="%.1f" stroke="%s" stroke-width="%g" stroke-dasharray="%s"/>'
+            % (x1, y1, x2, y2, colour, width, dash)
+        )
 
     def path(self, points, colour, dash=""):
-        self.parts.append('<polyline points="%s" fill="none" stroke="%s" stroke-width="2" stroke-dasharray="%s"/>' % (" ".join("%.1f,%.1f" % it for it in points), colour, dash))
-        self.parts += ['<circle cx="%.1f" cy="%.1f" r="3" fill="%s"/>' % (x, y, colour) for x, y in points]
+        self.parts.append(
+            '<polyline points="%s" fill="none" stroke="%s" stroke-width="2" stroke-dasharray="%s"/>'
+            % (" ".join("%.1f,%.1f" % it for it in points), colour, dash)
+        )
+        self.parts += [
+            '<circle cx="%.1f" cy="%.1f" r="3" fill="%s"/>' % (x, y, colour) for x, y in points
+        ]
 
     def bar(self, x, y, width, height, colour):
-        self.parts.append('<rect x="%.1f" y="%.1f" width="%.1f" height="%.1f" fill="%s"/>' % (x, y, width, height, colour))
+        self.parts.append(
+            '<rect x="%.1f" y="%.1f" width="%.1f" height="%.1f" fill="%s"/>'
+            % (x, y, width, height, colour)
+        )
 
     def write(self, path):
         with open(path, "w") as file:
@@ -109,12 +141,20 @@ class Panel:
 
 def places_of(figures, width, pretolerance):
     start = "places_%s_%d_" % (width, pretolerance)
-    return sorted((int(case[len(start):]), case) for case in figures.rows if case.startswith(start))
+    return sorted(
+        (int(case[len(start) :]), case) for case in figures.rows if case.startswith(start)
+    )
 
 
 def draw_places(figures, out):
     svg = Svg(800, 580, "What a place of a paragraph costs")
-    svg.text(20, 26, "What a place costs, against the number of places in the paragraph", size=15, weight="bold")
+    svg.text(
+        20,
+        26,
+        "What a place costs, against the number of places in the paragraph",
+        size=15,
+        weight="bold",
+    )
     for x, name, dash in ((20, "boxglue", ""), (110, "tex", "5 4")):
         svg.path([(x, 44), (x + 26, 44)], COLOURS[name], dash)
         svg.text(x + 34, 48, name)
@@ -122,7 +162,10 @@ def draw_places(figures, out):
     for row, (what, scale, words) in enumerate(kinds):
         for column, (width, pretolerance) in enumerate((("345pt", 100), ("1500pt", 100))):
             cases = places_of(figures, width, pretolerance)
-            found = {name: [(length, figures.each(case, name, what)) for length, case in cases] for name in ("boxglue", "tex")}
+            found = {
+                name: [(length, figures.each(case, name, what)) for length, case in cases]
+                for name in ("boxglue", "tex")
+            }
             if not cases or any(value is None for line in found.values() for _, value in line):
                 continue
             left, top = 70 + column * 380, 92 + row * 250
@@ -130,26 +173,56 @@ def draw_places(figures, out):
             panel = Panel(svg, left, top, [length for length, _ in cases], steps_to(top_of))
             svg.text(left, top - 12, "%s, lines of %s" % (words, width))
             for name, dash in (("tex", "5 4"), ("boxglue", "")):
-                svg.path([panel.point(length, value * scale) for length, value in found[name]], COLOURS[name], dash)
+                svg.path(
+                    [panel.point(length, value * scale) for length, value in found[name]],
+                    COLOURS[name],
+                    dash,
+                )
     svg.text(20, 570, figures.notes[0] if figures.notes else "", colour=FAINT, size=10)
     svg.write(os.path.join(out, "speed_places.svg"))
 
 
-LABELS = (("paragraphs_200", "paragraphs, tolerance 200"), ("paragraphs_10000", "paragraphs, tolerance 10000"), ("places_345pt_100_100", "places: 345pt, 100"),
-    ("places_345pt_100_1000", "places: 345pt, 1,000"), ("places_345pt_100_8000", "places: 345pt, 8,000"), ("places_1500pt_100_100", "places: 1500pt, 100"),
-    ("places_1500pt_100_1000", "places: 1500pt, 1,000"), ("places_1500pt_100_8000", "places: 1500pt, 8,000"), ("list", "list"), ("paint", "paint"),
-    ("many_fonts_256", "many_fonts, 256 loaded"))
+LABELS = (
+    ("paragraphs_200", "paragraphs, tolerance 200"),
+    ("paragraphs_10000", "paragraphs, tolerance 10000"),
+    ("places_345pt_100_100", "places: 345pt, 100"),
+    ("places_345pt_100_1000", "places: 345pt, 1,000"),
+    ("places_345pt_100_8000", "places: 345pt, 8,000"),
+    ("places_1500pt_100_100", "places: 1500pt, 100"),
+    ("places_1500pt_100_1000", "places: 1500pt, 1,000"),
+    ("places_1500pt_100_8000", "places: 1500pt, 8,000"),
+    ("list", "list"),
+    ("paint", "paint"),
+    ("many_fonts_256", "many_fonts, 256 loaded"),
+)
 
 
 def draw_items(figures, out):
-    rows = [((case, peer), label) for case, label in LABELS for peer in figures.rows.get(case, ()) if peer != "boxglue"]
-    kinds = [(name, what) for name, what in RATIOS if any(figures.ratio(it[0], what, it[1]) is not None for it, _ in rows)]
+    rows = [
+        ((case, peer), label)
+        for case, label in LABELS
+        for peer in figures.rows.get(case, ())
+        if peer != "boxglue"
+    ]
+    kinds = [
+        (name, what)
+        for name, what in RATIOS
+        if any(figures.ratio(it[0], what, it[1]) is not None for it, _ in rows)
+    ]
     left, top, each, wide = 210, 76, 8 + 14 * len(kinds), 500
-    found = {(it, name): figures.ratio(it[0], what, it[1]) for it, _ in rows for name, what in kinds}
+    found = {
+        (it, name): figures.ratio(it[0], what, it[1]) for it, _ in rows for name, what in kinds
+    }
     most = max(1.2, min(max(it for it in found.values() if it is not None), 4))
     height = top + each * len(rows) + 50
     svg = Svg(800, height, "boxglue beside its peers")
-    svg.text(20, 26, "boxglue as a ratio to the program that is named (less is better)", size=15, weight="bold")
+    svg.text(
+        20,
+        26,
+        "boxglue as a ratio to the program that is named (less is better)",
+        size=15,
+        weight="bold",
+    )
     for place, (name, _) in enumerate(kinds):
         svg.bar(left + place * 120, 38, 12, 12, COLOURS[name])
         svg.text(left + 18 + place * 120, 48, name)
@@ -172,10 +245,21 @@ def draw_items(figures, out):
     svg.write(os.path.join(out, "speed_items.svg"))
 
 
-MEMORY = (("start", "an empty script"), ("paragraphs_200", "2,000 paragraphs"), ("places_345pt_100_8000", "a paragraph of 8,000 places"), ("paint", "paint"),
-    ("large_script_100000", "a script of 100,000 lines"), ("large_script_1000000", "1,000,000 lines"), ("large_script_10000000", "10,000,000 lines"),
-    ("large_pages_2_10000", "10,000 pages, 2 fonts"), ("large_pages_2_60000", "60,000 pages, 2 fonts"), ("large_pages_256_60000", "60,000 pages, 256 fonts"),
-    ("large_list_1", "list of 1.4 MB"), ("large_list_14", "list of 14 MB"), ("large_list_140", "list of 140 MB"))
+MEMORY = (
+    ("start", "an empty script"),
+    ("paragraphs_200", "2,000 paragraphs"),
+    ("places_345pt_100_8000", "a paragraph of 8,000 places"),
+    ("paint", "paint"),
+    ("large_script_100000", "a script of 100,000 lines"),
+    ("large_script_1000000", "1,000,000 lines"),
+    ("large_script_10000000", "10,000,000 lines"),
+    ("large_pages_2_10000", "10,000 pages, 2 fonts"),
+    ("large_pages_2_60000", "60,000 pages, 2 fonts"),
+    ("large_pages_256_60000", "60,000 pages, 256 fonts"),
+    ("large_list_1", "list of 1.4 MB"),
+    ("large_list_14", "list of 14 MB"),
+    ("large_list_140", "list of 140 MB"),
+)
 
 
 def draw_memory(figures, out):
@@ -183,31 +267,47 @@ def draw_memory(figures, out):
     rows = [it for it in MEMORY if it[0] in figures.rows]
     left, top, each, wide = 210, 66, 38, 500
     megabytes = lambda row: float(row["memory"]) / 1e6
-    tens = math.ceil(math.log10(max(megabytes(row) for case, _ in rows for row in figures.rows[case].values())))
+    tens = math.ceil(
+        math.log10(max(megabytes(row) for case, _ in rows for row in figures.rows[case].values()))
+    )
     svg = Svg(800, top + each * len(rows) + 50, "Peak memory of boxglue and its peers")
-    svg.text(20, 26, "Peak memory in MB, on a logarithmic axis (less is better)", size=15, weight="bold")
-    for place, (name, colour) in enumerate((("boxglue", "boxglue"), ("its peer, where there is one", "tex"))):
+    svg.text(
+        20, 26, "Peak memory in MB, on a logarithmic axis (less is better)", size=15, weight="bold"
+    )
+    for place, (name, colour) in enumerate(
+        (("boxglue", "boxglue"), ("its peer, where there is one", "tex"))
+    ):
         svg.bar(left + place * 120, 36, 12, 12, COLOURS[colour])
         svg.text(left + 18 + place * 120, 46, name)
     bottom = top + each * len(rows)
     for ten in range(tens + 1):
         x = left + ten / tens * wide
         svg.line(x, top - 8, x, bottom)
-        svg.text(x, bottom + 16, "{:,}".format(10 ** ten), "middle", FAINT, 11)
+        svg.text(x, bottom + 16, "{:,}".format(10**ten), "middle", FAINT, 11)
     for place, (case, label) in enumerate(rows):
         y, peer = top + place * each, figures.peer(case)
         svg.text(left - 10, y + 14, label, "end")
-        for turn, (row, colour) in enumerate([(figures.rows[case]["boxglue"], "boxglue")] + ([(peer, "tex")] if peer else [])):
+        for turn, (row, colour) in enumerate(
+            [(figures.rows[case]["boxglue"], "boxglue")] + ([(peer, "tex")] if peer else [])
+        ):
             long = max(0, math.log10(megabytes(row))) / tens * wide
             svg.bar(left, y + turn * 14, long, 11, COLOURS[colour])
-            svg.text(left + long + 5, y + turn * 14 + 10, "%.1f" % megabytes(row) + (" (%s)" % row["program"] if turn else ""), colour=FAINT, size=10)
+            svg.text(
+                left + long + 5,
+                y + turn * 14 + 10,
+                "%.1f" % megabytes(row) + (" (%s)" % row["program"] if turn else ""),
+                colour=FAINT,
+                size=10,
+            )
     for place, note in enumerate([it for it in figures.notes if it.startswith("bench/run.py")][:2]):
         svg.text(20, bottom + 34 + place * 12, note, colour=FAINT, size=10)
     svg.write(os.path.join(out, "speed_memory.svg"))
 
 
 def main():
-    parser = argparse.ArgumentParser(description=__doc__, formatter_class=argparse.RawDescriptionHelpFormatter)
+    parser = argparse.ArgumentParser(
+        description=__doc__, formatter_class=argparse.RawDescriptionHelpFormatter
+    )
     parser.add_argument("data", nargs="*", default=KNOWN, metavar="DATA")
     parser.add_argument("--out", default=DOCS, metavar="FOLDER")
     words = parser.parse_args()

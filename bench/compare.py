@@ -19,8 +19,15 @@ from hostile_inputs import Good, input_of  # noqa: E402
 from items import CMR10  # noqa: E402
 
 SHOWN = 20
-FOUND = {"paragraphs of no line": rb"lines 0 pass 0", "paragraphs of pass 1": rb"pass 1", "paragraphs of pass 2": rb"pass 2", "paragraphs of pass 3": rb"pass 3", "pages": rb": shipped",
-         "splits": rb": split", "refusals": rb"refused"}
+FOUND = {
+    "paragraphs of no line": rb"lines 0 pass 0",
+    "paragraphs of pass 1": rb"pass 1",
+    "paragraphs of pass 2": rb"pass 2",
+    "paragraphs of pass 3": rb"pass 3",
+    "pages": rb": shipped",
+    "splits": rb": split",
+    "refusals": rb"refused",
+}
 
 
 def results(room, it):
@@ -31,24 +38,40 @@ def results(room, it):
     if ran.made and it.kind != "words":
         room.write("made.dvi", ran.made)
         listed = room.run(["list", "made.dvi", *it.words[2:]]).output
-    return {"status": ran.status, "answers": ran.output, "messages": ran.errors, "file": ran.made, "listing": listed}
+    return {
+        "status": ran.status,
+        "answers": ran.output,
+        "messages": ran.errors,
+        "file": ran.made,
+        "listing": listed,
+    }
 
 
 def differences(rooms, versions, it):
     """The names of the results in which two programs differ, and the results of the first one."""
     first, other = (results(room, it) for room in rooms)
     same_version = first["answers"] == versions[0] and other["answers"] == versions[1]
-    return [name for name in first if first[name] != other[name] and not (same_version and name == "answers")], first
+    return [
+        name
+        for name in first
+        if first[name] != other[name] and not (same_version and name == "answers")
+    ], first
 
 
 def compare(rooms, inputs, kept):
     """Compares two programs on numbered inputs. Returns how many differ, and what was in the answers."""
-    versions, wrong, found = [room.run(["--version"]).output for room in rooms], 0, collections.Counter()
+    versions, wrong, found = (
+        [room.run(["--version"]).output for room in rooms],
+        0,
+        collections.Counter(),
+    )
     for number, it in inputs:
         names, first = differences(rooms, versions, it)
         found["inputs"] += 1
         for what, pattern in FOUND.items():
-            found[what] += len(re.findall(pattern, first["answers"])) if it.kind == "document" else 0
+            found[what] += (
+                len(re.findall(pattern, first["answers"])) if it.kind == "document" else 0
+            )
         if names:
             wrong += 1
             if wrong <= SHOWN:
@@ -59,27 +82,53 @@ def compare(rooms, inputs, kept):
 
 
 def main():
-    parser = argparse.ArgumentParser(description=__doc__, formatter_class=argparse.RawDescriptionHelpFormatter)
+    parser = argparse.ArgumentParser(
+        description=__doc__, formatter_class=argparse.RawDescriptionHelpFormatter
+    )
     parser.add_argument("programs", nargs=2, metavar="PROGRAM", help="the two programs")
-    parser.add_argument("--scripts", type=int, default=4000, metavar="N", help="how many documents (4,000)")
-    parser.add_argument("--hostile", type=int, default=0, metavar="N", help="how many inputs of bench/trials/hostile.py (0)")
-    parser.add_argument("--first", type=int, default=0, metavar="N", help="the number of the first (0)")
+    parser.add_argument(
+        "--scripts", type=int, default=4000, metavar="N", help="how many documents (4,000)"
+    )
+    parser.add_argument(
+        "--hostile",
+        type=int,
+        default=0,
+        metavar="N",
+        help="how many inputs of bench/trials/hostile.py (0)",
+    )
+    parser.add_argument(
+        "--first", type=int, default=0, metavar="N", help="the number of the first (0)"
+    )
     parser.add_argument("--keep", metavar="FOLDER", help="where the inputs go that differ")
     words = parser.parse_args()
-    programs, kept = [os.path.abspath(it) for it in words.programs], words.keep and os.path.abspath(words.keep)
+    programs, kept = [os.path.abspath(it) for it in words.programs], words.keep and os.path.abspath(
+        words.keep
+    )
     if not os.path.exists(CMR10):
         sys.exit("%s is not there: Debian's package texlive-base" % CMR10)
     with open(CMR10, "rb") as file:
         metrics = file.read()
-    with tempfile.TemporaryDirectory(dir="/dev/shm" if os.path.isdir("/dev/shm") else None) as folder:
+    with tempfile.TemporaryDirectory(
+        dir="/dev/shm" if os.path.isdir("/dev/shm") else None
+    ) as folder:
         room = Room(programs[0], folder)
         rooms, good = (room, room.other(programs[1])), Good(room.typeset) if words.hostile else None
-        documents = ((it, document_of(it, metrics)) for it in range(words.first, words.first + words.scripts))
-        hostile = ((it, input_of(it, good)) for it in range(words.first, words.first + words.hostile))
-        wrong, found = compare(rooms, (pair for inputs in (documents, hostile) for pair in inputs), kept)
+        documents = (
+            (it, document_of(it, metrics)) for it in range(words.first, words.first + words.scripts)
+        )
+        hostile = (
+            (it, input_of(it, good)) for it in range(words.first, words.first + words.hostile)
+        )
+        wrong, found = compare(
+            rooms, (pair for inputs in (documents, hostile) for pair in inputs), kept
+        )
         os.chdir("/")
     print(", ".join("%s %d" % it for it in found.items()))
-    print("%d inputs differ" % wrong if wrong else "status, answers, messages, files and listings are equal")
+    print(
+        "%d inputs differ" % wrong
+        if wrong
+        else "status, answers, messages, files and listings are equal"
+    )
     sys.exit(bool(wrong))
 
 

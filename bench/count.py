@@ -25,25 +25,58 @@ def counted(program, case, folder):
 
 
 def main():
-    parser = argparse.ArgumentParser(description=__doc__, formatter_class=argparse.RawDescriptionHelpFormatter)
+    parser = argparse.ArgumentParser(
+        description=__doc__, formatter_class=argparse.RawDescriptionHelpFormatter
+    )
     parser.add_argument("programs", nargs="+", metavar="PROGRAM")
-    parser.add_argument("--items", nargs="+", metavar="ITEM", default=[""], help="cases whose names begin so, as places_345pt_100_1000")
-    parser.add_argument("--jobs", type=int, default=1, metavar="N", help="N runs at once; the counts are the same")
+    parser.add_argument(
+        "--items",
+        nargs="+",
+        metavar="ITEM",
+        default=[""],
+        help="cases whose names begin so, as places_345pt_100_1000",
+    )
+    parser.add_argument(
+        "--jobs", type=int, default=1, metavar="N", help="N runs at once; the counts are the same"
+    )
     words = parser.parse_args()
     programs, differ = [os.path.abspath(it) for it in words.programs], []
     if not os.path.exists(CMR10):
         sys.exit("%s is not there: Debian's package texlive-base" % CMR10)
     with tempfile.TemporaryDirectory() as folder:
         work = Work(programs[0], folder)
-        chosen = [item for item in ITEMS if any(item.startswith(it) or it.startswith(item) for it in words.items)]
-        cases = [case for item in chosen for case in getattr(work, item)() if any(case.name.startswith(it) for it in words.items)]
+        chosen = [
+            item
+            for item in ITEMS
+            if any(item.startswith(it) or it.startswith(item) for it in words.items)
+        ]
+        cases = [
+            case
+            for item in chosen
+            for case in getattr(work, item)()
+            if any(case.name.startswith(it) for it in words.items)
+        ]
         with ThreadPoolExecutor(words.jobs) as pool:
-            for case, *found in pool.map(lambda case: (case, *(counted(program, case, folder) for program in programs)), cases):
-                print("%-24s %s  %s" % (case.name, "".join("%10.2f" % it[0] for it in found), "".join("%10.3f" % it[1] for it in found)), flush=True)
+            for case, *found in pool.map(
+                lambda case: (case, *(counted(program, case, folder) for program in programs)),
+                cases,
+            ):
+                print(
+                    "%-24s %s  %s"
+                    % (
+                        case.name,
+                        "".join("%10.2f" % it[0] for it in found),
+                        "".join("%10.3f" % it[1] for it in found),
+                    ),
+                    flush=True,
+                )
                 if len({it[2] for it in found}) > 1:
                     differ.append(case.name)
                     print("  the files or answers differ", flush=True)
-    print("millions of instructions, then of D1 misses" + ("; the files and answers are equal" if len(programs) > 1 and not differ else ""))
+    print(
+        "millions of instructions, then of D1 misses"
+        + ("; the files and answers are equal" if len(programs) > 1 and not differ else "")
+    )
     sys.exit(1 if differ else 0)
 
 

@@ -65,7 +65,11 @@ class Samples:
     def take(self):
         now = processes()
         times = defaultdict(float)
-        tasks = {number: self.tasks.get(number) or task(number) for number in now if is_below(number, self.root, now)}
+        tasks = {
+            number: self.tasks.get(number) or task(number)
+            for number in now
+            if is_below(number, self.root, now)
+        }
         for number, what in tasks.items():
             if what:
                 top = number
@@ -91,34 +95,70 @@ def rows(samples, root):
     """A row for each crate, in the order of crates.txt."""
     spent = samples.by_task()
     with open(os.path.join(root, "crates.txt")) as file:
-        crates = [line.split()[0].rstrip(":") for line in file if line.strip() and not line.startswith("#")]
+        crates = [
+            line.split()[0].rstrip(":")
+            for line in file
+            if line.strip() and not line.startswith("#")
+        ]
     for crate in crates:
         folder = os.path.join(root, "crates", crate, "must-fail")
-        names = sorted(name for name in os.listdir(folder) if name.endswith(".edit")) if os.path.isdir(folder) else []
-        edits = {what: it for (name, what), it in spent.items() if name == crate and what not in ("proof", "tests")}
+        names = (
+            sorted(name for name in os.listdir(folder) if name.endswith(".edit"))
+            if os.path.isdir(folder)
+            else []
+        )
+        edits = {
+            what: it
+            for (name, what), it in spent.items()
+            if name == crate and what not in ("proof", "tests")
+        }
         each = {what: it for what, it in edits.items() if what != "seed"}
         dearest = max(each, key=each.get, default=None)
         name = "" if dearest is None else names[int(dearest)] if dearest.isdigit() else names[0]
-        yield Row(crate, spent.get((crate, "proof"), 0), spent.get((crate, "tests"), 0), sum(edits.values()), "%.0f %s" % (each[dearest], name) if each else "")
+        yield Row(
+            crate,
+            spent.get((crate, "proof"), 0),
+            spent.get((crate, "tests"), 0),
+            sum(edits.values()),
+            "%.0f %s" % (each[dearest], name) if each else "",
+        )
 
 
 def show(table):
     """Prints a line for each crate, and the sums."""
     for row in table:
-        print("%-17s proof %4.0f  tests %4.0f  edits %4.0f%s" % (*row[:4], "  dearest " + row.dearest if row.dearest else ""))
-    print("; ".join("%s %.0f minutes" % (what, sum(it) / 60) for what, it in zip(("proofs", "tests", "edits"), list(zip(*table))[1:4])))
+        print(
+            "%-17s proof %4.0f  tests %4.0f  edits %4.0f%s"
+            % (*row[:4], "  dearest " + row.dearest if row.dearest else "")
+        )
+    print(
+        "; ".join(
+            "%s %.0f minutes" % (what, sum(it) / 60)
+            for what, it in zip(("proofs", "tests", "edits"), list(zip(*table))[1:4])
+        )
+    )
 
 
 def write(path, table, command):
     """Writes the table of a run, with its day, its commit and its command."""
-    commit = subprocess.run(["git", "rev-parse", "--short=8", "HEAD"], capture_output=True, text=True).stdout.strip()
+    commit = subprocess.run(
+        ["git", "rev-parse", "--short=8", "HEAD"], capture_output=True, text=True
+    ).stdout.strip()
     with open(path, "w", encoding="utf-8") as it:
-        it.write("# seconds of processor of the prover, by bench/gate_times.py: %s, %s, %s, %d cores\n" % (" ".join(command), time.strftime("%d %B %Y"), commit, len(os.sched_getaffinity(0))))
-        it.write("crate\tproof\ttests\tedits\tdearest edit\n" + "".join("%s\t%.0f\t%.0f\t%.0f\t%s\n" % row for row in table))
+        it.write(
+            "# seconds of processor of the prover, by bench/gate_times.py: %s, %s, %s, %d cores\n"
+            % (" ".join(command), time.strftime("%d %B %Y"), commit, len(os.sched_getaffinity(0)))
+        )
+        it.write(
+            "crate\tproof\ttests\tedits\tdearest edit\n"
+            + "".join("%s\t%.0f\t%.0f\t%.0f\t%s\n" % row for row in table)
+        )
 
 
 def main():
-    words = argparse.ArgumentParser(description=__doc__, formatter_class=argparse.RawDescriptionHelpFormatter)
+    words = argparse.ArgumentParser(
+        description=__doc__, formatter_class=argparse.RawDescriptionHelpFormatter
+    )
     words.add_argument("--every", type=float, default=0.25)
     words.add_argument("--write", metavar="FILE")
     words.add_argument("command", nargs=argparse.REMAINDER)
@@ -139,7 +179,10 @@ def main():
         print("no table of times: %r" % error)
     running.wait()
     used = resource.getrusage(resource.RUSAGE_CHILDREN)
-    print("%.1f minutes, %.0f of processor, status %d" % ((time.time() - begun) / 60, (used.ru_utime + used.ru_stime) / 60, running.returncode))
+    print(
+        "%.1f minutes, %.0f of processor, status %d"
+        % ((time.time() - begun) / 60, (used.ru_utime + used.ru_stime) / 60, running.returncode)
+    )
     raise SystemExit(running.returncode)
 
 

@@ -4,7 +4,9 @@ import os
 import struct
 import sys
 
-sys.path.insert(1, os.path.join(os.path.dirname(os.path.dirname(os.path.abspath(__file__))), "tests"))
+sys.path.insert(
+    1, os.path.join(os.path.dirname(os.path.dirname(os.path.abspath(__file__))), "tests")
+)
 from models.plain_font import metric_bytes  # noqa: E402 (after the path)
 
 # Words of running prose: frequent ones, and others.
@@ -36,7 +38,7 @@ class Prose:
         self.words = OFTEN.split() * 2 + OFTEN.split()[:10] * 4 + WORDS.split()
 
     def number(self, below):
-        self.state = (self.state * 6364136223846793005 + 1442695040888963407) % 2 ** 64
+        self.state = (self.state * 6364136223846793005 + 1442695040888963407) % 2**64
         return (self.state >> 33) % below
 
     def paragraph(self, count):
@@ -92,14 +94,18 @@ def book(tolerance):
         box.append("vbox into 0\n" + "".join(map(box_paragraph, paragraphs)) + "end\n")
         box.append(("vsplit 0 to %s into 1\nship 1\n" % PAGE) * SPLITS + "ship 0\n")
         tex.append("\\setbox0\\vbox{" + "".join(map(tex_paragraph, paragraphs)) + "}\n")
-        tex.append(("\\setbox1\\vsplit0 to %s \\shipout\\box1\n" % PAGE) * SPLITS + "\\shipout\\box0\n")
+        tex.append(
+            ("\\setbox1\\vsplit0 to %s \\shipout\\box1\n" % PAGE) * SPLITS + "\\shipout\\box0\n"
+        )
     tex.append("\\end\n")
     return "".join(box), "".join(tex), words, letters
 
 
 def troff_book():
     """The same chapters for groff, which fills line after line without a tolerance. Its own page length ends a page."""
-    parts = [".pl %s\n.po 0\n.ll 345p\n.ps 10\n.vs 12p\n.ss 12 0\n.ad b\n.nh\n" % PAGE.replace("pt", "p")]
+    parts = [
+        ".pl %s\n.po 0\n.ll 345p\n.ps 10\n.vs 12p\n.ss 12 0\n.ad b\n.nh\n" % PAGE.replace("pt", "p")
+    ]
     for paragraphs in chapters():
         parts += ["\n".join(rows(words)) + "\n.br\n" for words in paragraphs]
         parts.append(".bp\n")
@@ -127,7 +133,10 @@ def many_rules(count):
     for row in range(count // 40):
         script.append("hbox\n")
         for _ in range(40):
-            script.append("rule %d.%dpt %d.%dpt 0pt\nkern %d.%dpt\n" % tuple(prose.number(n) for n in (9, 10, 7, 10, 4, 10)))
+            script.append(
+                "rule %d.%dpt %d.%dpt 0pt\nkern %d.%dpt\n"
+                % tuple(prose.number(n) for n in (9, 10, 7, 10, 4, 10))
+            )
         script.append("end\n")
     return "".join(script) + "end\nship 0\n"
 
@@ -137,7 +146,10 @@ def small_boxes(lines):
     prose = Prose(4)
     script = []
     for number in range(lines // 4):
-        script.append("hbox into %d\nrule %d.%dpt 2pt 1pt\nrule %dpt * 0pt\nend\n" % (number % 256, prose.number(90), prose.number(100), prose.number(40)))
+        script.append(
+            "hbox into %d\nrule %d.%dpt 2pt 1pt\nrule %dpt * 0pt\nend\n"
+            % (number % 256, prose.number(90), prose.number(100), prose.number(40))
+        )
     return "".join(script)
 
 
@@ -155,10 +167,22 @@ def metric_file():
     steps = [struct.pack(">BBH", 254, 0, 256 + code // 2 * steps_each) for code in range(256)]
     for program in range(programs):
         for step in range(steps_each):
-            steps.append(struct.pack(">BBH", 128 if step == steps_each - 1 else 0, 64 + step, 32768 + (program * 7 + step) % 900))
+            steps.append(
+                struct.pack(
+                    ">BBH",
+                    128 if step == steps_each - 1 else 0,
+                    64 + step,
+                    32768 + (program * 7 + step) % 900,
+                )
+            )
     widths = [fixed(1000 * code) for code in range(256)]
     heights, depths, italics = [fixed(0), fixed(600000)], [fixed(0), fixed(200000)], [fixed(0)]
-    header, parameters = [fixed(0), fixed(10 << 20)], [fixed(0), fixed(349526), fixed(174763), fixed(116508)]
+    header, parameters = [fixed(0), fixed(10 << 20)], [
+        fixed(0),
+        fixed(349526),
+        fixed(174763),
+        fixed(116508),
+    ]
     parts = [header, characters, widths, heights, depths, italics, steps, [], [], parameters]
     parts[7] = [fixed(-20000 + kern) for kern in range(length - 6 - sum(map(len, parts)))]
     return metric_bytes(0, 255, parts)
@@ -173,8 +197,15 @@ def small_metric_file(number):
     """A metric file in which each of the characters 32 to 126 has one width, which differs from file to file; no kerns and no ligatures."""
     fixed = lambda parts: struct.pack(">i", parts << 15)
     characters = [bytes([1, 0x11, 0, 0])] * 95
-    widths, heights, depths, italics = [fixed(0), fixed(10 + number % 23)], [fixed(0), fixed(22)], [fixed(0), fixed(6)], [fixed(0)]
-    header, parameters = [struct.pack(">I", 1 + number), struct.pack(">i", 10 << 20)], [fixed(it) for it in (0, 16, 8, 5, 14, 32, 0)]
+    widths, heights, depths, italics = (
+        [fixed(0), fixed(10 + number % 23)],
+        [fixed(0), fixed(22)],
+        [fixed(0), fixed(6)],
+        [fixed(0)],
+    )
+    header, parameters = [struct.pack(">I", 1 + number), struct.pack(">i", 10 << 20)], [
+        fixed(it) for it in (0, 16, 8, 5, 14, 32, 0)
+    ]
     parts = [header, characters, widths, heights, depths, italics, [], [], [], parameters]
     return metric_bytes(32, 126, parts)
 
@@ -184,7 +215,10 @@ def pages_of_fonts(pages, loaded):
     prose = Prose(5)
     box = ["font %d %s\n" % (slot, font_name(slot)) for slot in range(loaded)]
     tex = [r"\batchmode \frenchspacing \maxdepth16383pt \hbadness10000 \hfuzz16383pt" + "\n"]
-    tex += ["\\expandafter\\font\\csname f%d\\endcsname=%s\n" % (slot, font_name(slot)) for slot in range(loaded)]
+    tex += [
+        "\\expandafter\\font\\csname f%d\\endcsname=%s\n" % (slot, font_name(slot))
+        for slot in range(loaded)
+    ]
     for page in range(pages):
         box.append("hbox into 0\n")
         tex.append("\\setbox0\\hbox{")
@@ -200,7 +234,7 @@ def pages_of_fonts(pages, loaded):
 
 def repeated_pages(dvi, times):
     """A DVI file with all pages of another and, so many times more, those that come after its first one. A font has to be defined on the first page."""
-    number = lambda place: int.from_bytes(dvi[place:place + 4], "big", signed=True)
+    number = lambda place: int.from_bytes(dvi[place : place + 4], "big", signed=True)
     end = len(dvi.rstrip(b"\xdf"))
     post = number(end - 5)
     starts, start = [], number(post + 1)
@@ -208,13 +242,19 @@ def repeated_pages(dvi, times):
         starts.insert(0, start)
         start = number(start + 41)
     pages = [dvi[start:after] for start, after in zip(starts, starts[1:] + [post])]
-    parts, place, before = [dvi[:starts[0]]], starts[0], -1
+    parts, place, before = [dvi[: starts[0]]], starts[0], -1
     for page in pages[:1] + pages[1:] * (1 + times):
         parts.append(page[:41] + struct.pack(">i", before) + page[45:])
         place, before = place + len(page), place
     count = 1 + (len(pages) - 1) * (1 + times)
-    parts.append(dvi[post:post + 1] + struct.pack(">i", before) + dvi[post + 5:post + 27] + struct.pack(">H", count) + dvi[post + 29:end - 6])
-    last = struct.pack(">Bi", dvi[end - 6], place) + dvi[end - 1:end]
+    parts.append(
+        dvi[post : post + 1]
+        + struct.pack(">i", before)
+        + dvi[post + 5 : post + 27]
+        + struct.pack(">H", count)
+        + dvi[post + 29 : end - 6]
+    )
+    last = struct.pack(">Bi", dvi[end - 6], place) + dvi[end - 1 : end]
     size = sum(map(len, parts)) + len(last)
     return b"".join(parts) + last + b"\xdf" * (4 + -size % 4)
 
@@ -223,13 +263,20 @@ def first_lines(count):
     """A paragraph of this many places that would fit into one line, in which lines up to the 32nd are counted.
     Each place ends lines from all places before it."""
     head = "set hsize 16383pt\nset firstsize 16383pt\nset firstlines 32\nset pretolerance 10000\n"
-    return head + "vbox into 0\npar\n" + "rule 1pt 1pt 0pt\nglue 1pt plus 1pt\n" * count + "end\nend\n"
+    return (
+        head + "vbox into 0\npar\n" + "rule 1pt 1pt 0pt\nglue 1pt plus 1pt\n" * count + "end\nend\n"
+    )
 
 
 def splits(count, falls):
     """A box of this many rules, which is split as many times; the widths of the rules stay the same or fall."""
     rules = ("rule %dsp 1pt 0pt\nglue 0pt\n" % (count - it if falls else 1) for it in range(count))
-    return "set splittopskip 0pt\nvbox into 0\n" + "".join(rules) + "end\n" + "vsplit 0 to 1pt into 1\n" * count
+    return (
+        "set splittopskip 0pt\nvbox into 0\n"
+        + "".join(rules)
+        + "end\n"
+        + "vsplit 0 to 1pt into 1\n" * count
+    )
 
 
 def long_text(count):
@@ -241,7 +288,18 @@ def flat_metric_file():
     """A metric file in which each of the characters 32 to 126 has the width 0, so that any number of them fits on a line."""
     fixed = lambda value: struct.pack(">i", value)
     zeros = [fixed(0), fixed(0)]
-    parts = [[fixed(0), fixed(10 << 20)], [bytes([1, 0x11, 0, 0])] * 95, zeros, zeros, zeros, zeros[:1], [], [], [], []]
+    parts = [
+        [fixed(0), fixed(10 << 20)],
+        [bytes([1, 0x11, 0, 0])] * 95,
+        zeros,
+        zeros,
+        zeros,
+        zeros[:1],
+        [],
+        [],
+        [],
+        [],
+    ]
     return metric_bytes(32, 126, parts)
 
 
@@ -256,7 +314,13 @@ def one_page(body, definitions):
     page = struct.pack(">B10ii", 139, *[0] * 10, -1) + body + b"\x8c"
     head = b"\xf7\x02" + sizes + b"\x00"
     post = len(head) + len(page)
-    tail = struct.pack(">Bi", 248, len(head)) + sizes + struct.pack(">iiHH", 0, 0, 0, 1) + definitions + struct.pack(">BiB", 249, post, 2)
+    tail = (
+        struct.pack(">Bi", 248, len(head))
+        + sizes
+        + struct.pack(">iiHH", 0, 0, 0, 1)
+        + definitions
+        + struct.pack(">BiB", 249, post, 2)
+    )
     return head + page + tail + b"\xdf" * (4 + -(post + len(tail)) % 4)
 
 
@@ -269,4 +333,9 @@ def many_glyphs(count):
 def many_numbers(count):
     """A DVI file with a page that defines one font under this many numbers, and sets a glyph by each."""
     definitions = [font_definition(number) for number in range(count)]
-    return one_page(b"".join(it + struct.pack(">BIB", 238, number, 97) for number, it in enumerate(definitions)), b"".join(definitions))
+    return one_page(
+        b"".join(
+            it + struct.pack(">BIB", 238, number, 97) for number, it in enumerate(definitions)
+        ),
+        b"".join(definitions),
+    )

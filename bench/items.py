@@ -8,7 +8,12 @@ import subprocess
 import inputs
 
 CMR10 = "/usr/share/texlive/texmf-dist/fonts/tfm/public/cm/cmr10.tfm"
-PACKAGES = {**dict.fromkeys(("tex", "dvitype", "pdftex", "luatex"), "texlive-binaries"), "dvipng": "dvipng", "groff": "groff", "floor": "gcc"}
+PACKAGES = {
+    **dict.fromkeys(("tex", "dvitype", "pdftex", "luatex"), "texlive-binaries"),
+    "dvipng": "dvipng",
+    "groff": "groff",
+    "floor": "gcc",
+}
 HERE = os.path.dirname(os.path.abspath(__file__))
 FLAGS = "-std=c99 -O2 -Wall -Wextra -Wpedantic -Werror".split()
 PLACES = 80000
@@ -25,10 +30,28 @@ class Peer:
 
 class Case:
     """A run of boxglue with these words, this standard input and the file that it writes, if any; its peers; the unit that it is counted in;
-    whether it is a large one, which is run once and whose output is not kept; and the status that boxglue ends with."""
+    whether it is a large one, which is run once and whose output is not kept; and the status that boxglue ends with.
+    """
 
-    def __init__(self, name, words, stdin="/dev/null", out=None, peers=(), unit=None, units=1, large=False, status=0):
-        self.name, self.words, self.stdin, self.out, self.peers = name, words, stdin, out, list(peers)
+    def __init__(
+        self,
+        name,
+        words,
+        stdin="/dev/null",
+        out=None,
+        peers=(),
+        unit=None,
+        units=1,
+        large=False,
+        status=0,
+    ):
+        self.name, self.words, self.stdin, self.out, self.peers = (
+            name,
+            words,
+            stdin,
+            out,
+            list(peers),
+        )
         self.unit, self.units, self.large, self.status = unit, units, large, status
 
 
@@ -52,14 +75,22 @@ class Work:
         if tex:
             self.put(name + ".tex", tex)
             more["peers"] = [Peer("tex", "tex", name + ".tex")]
-        return Case(name, ["typeset", "out.dvi", *fonts], self.put(name + ".box", script), "out.dvi", **more)
+        return Case(
+            name, ["typeset", "out.dvi", *fonts], self.put(name + ".box", script), "out.dvi", **more
+        )
 
     def made(self, out, case):
         """The DVI file that this case writes, once."""
         if not os.path.exists(os.path.join(self.folder, out)):
             words = ["typeset", out, *case.words[2:]]
             with open(case.stdin) as file:
-                subprocess.run([self.program, *words], cwd=self.folder, stdin=file, stdout=subprocess.DEVNULL, check=True)
+                subprocess.run(
+                    [self.program, *words],
+                    cwd=self.folder,
+                    stdin=file,
+                    stdout=subprocess.DEVNULL,
+                    check=True,
+                )
         return out
 
     def there(self, *peers):
@@ -74,16 +105,30 @@ class Work:
         """Builds a program of bench/floor in the folder, once."""
         out = os.path.join(self.folder, floor)
         if not os.path.exists(out):
-            subprocess.run(["cc", *FLAGS, "-o", out, os.path.join(HERE, "floor", os.path.basename(floor) + ".c")], check=True)
+            subprocess.run(
+                [
+                    "cc",
+                    *FLAGS,
+                    "-o",
+                    out,
+                    os.path.join(HERE, "floor", os.path.basename(floor) + ".c"),
+                ],
+                check=True,
+            )
 
     def book(self, tolerance):
         box, tex, words, _ = inputs.book(tolerance)
-        case = self.typeset("paragraphs_%d" % tolerance, box, "cmr10=" + CMR10, tex=tex, unit="word", units=words)
+        case = self.typeset(
+            "paragraphs_%d" % tolerance, box, "cmr10=" + CMR10, tex=tex, unit="word", units=words
+        )
         text, script = case.name + ".tex", case.name + ".box"
         if tolerance == 200:
             troff = self.put("book.roff", inputs.troff_book())
-            case.peers += self.there(Peer("pdftex", "pdftex", "-output-format=dvi", text), Peer("luatex", "luatex", "--output-format=dvi", text),
-                Peer("groff", "groff", "-Tdvi", troff))
+            case.peers += self.there(
+                Peer("pdftex", "pdftex", "-output-format=dvi", text),
+                Peer("luatex", "luatex", "--output-format=dvi", text),
+                Peer("groff", "groff", "-Tdvi", troff),
+            )
         case.peers += self.there(Peer("floor", "./paragraphs", script, CMR10, "out.dvi"))
         return case
 
@@ -98,24 +143,42 @@ class Work:
             for count in LENGTHS:
                 box, tex = inputs.places(count, width, PLACES, 10000, pretolerance)
                 name = "places_%s_%d_%d" % (width, pretolerance, count)
-                yield self.typeset(name, box, "cmr10=" + CMR10, tex=tex, unit="place", units=PLACES // count * count)
+                yield self.typeset(
+                    name,
+                    box,
+                    "cmr10=" + CMR10,
+                    tex=tex,
+                    unit="place",
+                    units=PLACES // count * count,
+                )
 
     def list(self):
         """`list` of the file that `paragraphs` writes."""
         out = self.made("book.dvi", self.book(200))
-        peers = [Peer("dvitype", "dvitype", "-output-level=4", out), *self.there(Peer("floor", "./list", out, CMR10))]
+        peers = [
+            Peer("dvitype", "dvitype", "-output-level=4", out),
+            *self.there(Peer("floor", "./list", out, CMR10)),
+        ]
         yield Case("list", ["list", out, "cmr10=" + CMR10], peers=peers)
 
     def paint(self):
         """4,000 rules on a page of A4 at 300 dpi."""
         out = self.made("rules.dvi", self.typeset("rules", inputs.many_rules(4000)))
         words = ["paint", "--page", "1", "--dpi", "300", "--width", "2480", "--height", "3508", out]
-        yield Case("paint", words, peers=[Peer("dvipng", "dvipng", "-D", "300", "-T", "210mm,297mm", "-o", "rules.png", out)])
+        yield Case(
+            "paint",
+            words,
+            peers=[
+                Peer("dvipng", "dvipng", "-D", "300", "-T", "210mm,297mm", "-o", "rules.png", out)
+            ],
+        )
 
     def short_lines(self):
         """Scripts of short lines: boxes of two rules each, and no page."""
         for count in (1000, 10000, 100000, 1000000):
-            yield self.typeset("short_lines_%d" % count, inputs.small_boxes(count), unit="line", units=count)
+            yield self.typeset(
+                "short_lines_%d" % count, inputs.small_boxes(count), unit="line", units=count
+            )
 
     def start(self):
         """An empty script."""
@@ -126,7 +189,9 @@ class Work:
         self.put("big.tfm", inputs.metric_file())
         for count in (1, 201):
             script = "".join("font %d big\n" % slot for slot in range(count))
-            yield self.typeset("fonts_%d" % count, script, "big=big.tfm", unit="reading", units=count)
+            yield self.typeset(
+                "fonts_%d" % count, script, "big=big.tfm", unit="reading", units=count
+            )
 
     def pages_of_fonts(self, name, pages, loaded, **more):
         """Pages of one line, each in two of these loaded fonts."""
@@ -145,18 +210,31 @@ class Work:
         """Boxes of one rule, each shipped as a page or made void."""
         for last in ("ship", "void"):
             for count in (6000, 60000):
-                yield self.typeset("small_pages_%s_%d" % (last, count), inputs.small_pages(count, last), unit="page", units=count)
+                yield self.typeset(
+                    "small_pages_%s_%d" % (last, count),
+                    inputs.small_pages(count, last),
+                    unit="page",
+                    units=count,
+                )
 
     def large_pages(self):
         """10,000 and 60,000 pages of one line, with 2 and with 256 fonts loaded."""
         for loaded in (2, 256):
             for pages in (10000, 60000):
-                yield self.pages_of_fonts("large_pages_%d_%d" % (loaded, pages), pages, loaded, large=True)
+                yield self.pages_of_fonts(
+                    "large_pages_%d_%d" % (loaded, pages), pages, loaded, large=True
+                )
 
     def large_script(self):
         """Scripts of short lines, as short_lines, of up to 10,000,000 lines."""
         for count in (100000, 1000000, 10000000):
-            yield self.typeset("large_script_%d" % count, inputs.small_boxes(count), unit="line", units=count, large=True)
+            yield self.typeset(
+                "large_script_%d" % count,
+                inputs.small_boxes(count),
+                unit="line",
+                units=count,
+                large=True,
+            )
 
     def large_list(self):
         """`list` of the file that `paragraphs` writes, of 1.4 MB, and of files of 14 and 140 MB with its pages again and again."""
@@ -166,11 +244,24 @@ class Work:
             content = inputs.repeated_pages(dvi, times)
             out = os.path.basename(self.put("book_%d.dvi" % megabytes, content))
             peers = [Peer("dvitype", "dvitype", "-output-level=4", out)]
-            yield Case("large_list_%d" % megabytes, ["list", out, "cmr10=" + CMR10], peers=peers, unit="byte", units=len(content), large=True)
+            yield Case(
+                "large_list_%d" % megabytes,
+                ["list", out, "cmr10=" + CMR10],
+                peers=peers,
+                unit="byte",
+                units=len(content),
+                large=True,
+            )
 
     def of_first_lines(self, *counts, **more):
         for count in counts:
-            yield self.typeset("first_lines_%d" % count, inputs.first_lines(count), unit="place", units=count, **more)
+            yield self.typeset(
+                "first_lines_%d" % count,
+                inputs.first_lines(count),
+                unit="place",
+                units=count,
+                **more,
+            )
 
     def first_lines(self):
         """A paragraph that would fit into one line, with firstlines 32."""
@@ -179,7 +270,13 @@ class Work:
     def of_splits(self, *counts, **more):
         for name, falls in (("same", False), ("falling", True)):
             for count in counts:
-                yield self.typeset("splits_%s_%d" % (name, count), inputs.splits(count, falls), unit="split", units=count, **more)
+                yield self.typeset(
+                    "splits_%s_%d" % (name, count),
+                    inputs.splits(count, falls),
+                    unit="split",
+                    units=count,
+                    **more,
+                )
 
     def splits(self):
         """A box of rules that is split as often, with rules of the same width and of widths that fall."""
@@ -188,8 +285,16 @@ class Work:
     def of_long_text(self, *megabytes, **more):
         self.put("face.tfm", inputs.flat_metric_file())
         for size in megabytes:
-            script = inputs.long_text(size * 10 ** 6)
-            yield self.typeset("long_text_%d" % size, script, "face=face.tfm", unit="byte", units=size * 10 ** 6, status=1, **more)
+            script = inputs.long_text(size * 10**6)
+            yield self.typeset(
+                "long_text_%d" % size,
+                script,
+                "face=face.tfm",
+                unit="byte",
+                units=size * 10**6,
+                status=1,
+                **more,
+            )
 
     def long_text(self):
         """One line of text of this many megabytes, which no list can hold, so it is refused."""
@@ -198,9 +303,23 @@ class Work:
     def of_many_glyphs(self, *megabytes, **more):
         self.put("face.tfm", inputs.flat_metric_file())
         for size in megabytes:
-            out = os.path.basename(self.put("glyphs_%d.dvi" % size, inputs.many_glyphs(size * 10 ** 6)))
-            words = ["paint", "--page", "1", "--dpi", "72", "--width", "100", "--height", "100", out, "face=face.tfm"]
-            yield Case("many_glyphs_%d" % size, words, unit="glyph", units=size * 10 ** 6, **more)
+            out = os.path.basename(
+                self.put("glyphs_%d.dvi" % size, inputs.many_glyphs(size * 10**6))
+            )
+            words = [
+                "paint",
+                "--page",
+                "1",
+                "--dpi",
+                "72",
+                "--width",
+                "100",
+                "--height",
+                "100",
+                out,
+                "face=face.tfm",
+            ]
+            yield Case("many_glyphs_%d" % size, words, unit="glyph", units=size * 10**6, **more)
 
     def many_glyphs(self):
         """`paint` of a page of this many million glyphs."""
@@ -210,7 +329,13 @@ class Work:
         self.put("face.tfm", inputs.flat_metric_file())
         for count in counts:
             out = os.path.basename(self.put("numbers_%d.dvi" % count, inputs.many_numbers(count)))
-            yield Case("many_numbers_%d" % count, ["list", out, "face=face.tfm"], unit="number", units=count, **more)
+            yield Case(
+                "many_numbers_%d" % count,
+                ["list", out, "face=face.tfm"],
+                unit="number",
+                units=count,
+                **more,
+            )
 
     def many_numbers(self):
         """`list` of a page that has one font under this many numbers, and a glyph by each."""
@@ -226,5 +351,16 @@ class Work:
 
 
 WORST = ("first_lines", "splits", "long_text", "many_glyphs", "many_numbers")
-ITEMS = ("paragraphs", "places", "list", "paint", "short_lines", "start", "fonts", "many_fonts", "small_pages", *WORST)
+ITEMS = (
+    "paragraphs",
+    "places",
+    "list",
+    "paint",
+    "short_lines",
+    "start",
+    "fonts",
+    "many_fonts",
+    "small_pages",
+    *WORST,
+)
 LARGE = ("large_pages", "large_script", "large_list", "large_worst")

@@ -49,9 +49,15 @@ def least(calls):
 
 
 def main():
-    parser = argparse.ArgumentParser(description=__doc__, formatter_class=argparse.RawDescriptionHelpFormatter)
-    parser.add_argument("--library", default=f"{ROOT}/crates/boxglue_c/out/libboxglue.so", help="the shared object")
-    parser.add_argument("--font", default=CMR10, help="the metric file of cmr10 (Debian's package texlive-base)")
+    parser = argparse.ArgumentParser(
+        description=__doc__, formatter_class=argparse.RawDescriptionHelpFormatter
+    )
+    parser.add_argument(
+        "--library", default=f"{ROOT}/crates/boxglue_c/out/libboxglue.so", help="the shared object"
+    )
+    parser.add_argument(
+        "--font", default=CMR10, help="the metric file of cmr10 (Debian's package texlive-base)"
+    )
     words = parser.parse_args()
     for path in (words.library, words.font):
         if not os.path.isfile(path):
@@ -59,6 +65,7 @@ def main():
     os.environ["BOXGLUE_LIBRARY"] = words.library
     sys.path.insert(0, f"{ROOT}/bindings/python")
     import boxglue
+
     with open(words.font, "rb") as it:
         fonts = {"cmr10": it.read()}
     dvi = boxglue.run(inputs.book(200)[0], fonts).check().dvi
@@ -66,8 +73,12 @@ def main():
     print(f"{len(dvi)} bytes, {len(document.pages)} pages, {len(document.marks)} marks")
     if from_rows(document) != parsed(boxglue.listing(dvi, fonts)):
         sys.exit("the marks are not those of the listing")
-    array, tuples = least([lambda: boxglue.marks(dvi, fonts).marks.rows, lambda: parsed(boxglue.listing(dvi, fonts))])
-    print(f"as an array {array:.3f} s, as a listing that is parsed {tuples:.3f} s: {tuples / array:.1f} times, and {GOAL} are wanted")
+    array, tuples = least(
+        [lambda: boxglue.marks(dvi, fonts).marks.rows, lambda: parsed(boxglue.listing(dvi, fonts))]
+    )
+    print(
+        f"as an array {array:.3f} s, as a listing that is parsed {tuples:.3f} s: {tuples / array:.1f} times, and {GOAL} are wanted"
+    )
     return int(tuples < GOAL * array)
 
 

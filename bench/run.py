@@ -23,12 +23,22 @@ from measure import count, in_turn
 
 HERE = os.path.dirname(os.path.abspath(__file__))
 COLUMNS = "case program seconds memory instructions misses unit units".split()
-PEERS = {"paragraphs": "tex", "places": "tex", "many_fonts": "tex", "list": "dvitype", "paint": "dvipng", "large_pages": "tex", "large_list": "dvitype"}
+PEERS = {
+    "paragraphs": "tex",
+    "places": "tex",
+    "many_fonts": "tex",
+    "list": "dvitype",
+    "paint": "dvipng",
+    "large_pages": "tex",
+    "large_list": "dvitype",
+}
 NEED_CMR10 = ("paragraphs", "places", "list", "large_list")
 # Runs of the peers that may be absent: each ends with the status 0 where the peer is whole.
 PROBES = {
-    "pdftex": ("pdftex", "-output-format=dvi", "\\end"), "luatex": ("luatex", "--output-format=dvi", "\\end"),
-    "groff": ("groff", "-Tdvi", "/dev/null"), "floor": ("cc", "--version"),
+    "pdftex": ("pdftex", "-output-format=dvi", "\\end"),
+    "luatex": ("luatex", "--output-format=dvi", "\\end"),
+    "groff": ("groff", "-Tdvi", "/dev/null"),
+    "floor": ("cc", "--version"),
 }
 
 
@@ -42,7 +52,10 @@ class Row:
     def shown(self):
         text = "  %-8s %9.3f s %9.1f MB" % (self.program, self.cost.seconds, self.cost.memory / 1e6)
         if self.instructions is not None:
-            text += " %10.1f million, %.3f million D1 misses" % (self.instructions / 1e6, self.misses / 1e6)
+            text += " %10.1f million, %.3f million D1 misses" % (
+                self.instructions / 1e6,
+                self.misses / 1e6,
+            )
         if self.case.unit:
             text += "   a %s: %.3f us" % (self.case.unit, self.cost.seconds / self.case.units * 1e6)
             if self.instructions is not None:
@@ -52,20 +65,32 @@ class Row:
     def data(self):
         known = ["" if it is None else it for it in (self.instructions, self.misses)]
         figures = ("%.4f" % self.cost.seconds, self.cost.memory, *known)
-        return "\t".join(map(str, (self.case.name, self.program, *figures, self.case.unit or "", self.case.units)))
+        return "\t".join(
+            map(
+                str, (self.case.name, self.program, *figures, self.case.unit or "", self.case.units)
+            )
+        )
 
 
 def runs_of(work, case):
     """The words, the standard input and the status of boxglue and of its peers in a case."""
-    return [([work.program, *case.words], case.stdin, case.status)] + [(it.words, "/dev/null", 0) for it in case.peers]
+    return [([work.program, *case.words], case.stdin, case.status)] + [
+        (it.words, "/dev/null", 0) for it in case.peers
+    ]
 
 
 def counted(work, cases):
     """The instructions and D1 misses of each run of each case, by its name. A floor has to write what boxglue writes."""
+
     def of_case(case):
-        found = [count(words, stdin, work.folder, case.out) for words, stdin, _ in runs_of(work, case)]
+        found = [
+            count(words, stdin, work.folder, case.out) for words, stdin, _ in runs_of(work, case)
+        ]
         for peer, it in zip(case.peers, found[1:]):
-            if peer.name == "floor" and (it.answers, it.written) != (found[0].answers, found[0].written):
+            if peer.name == "floor" and (it.answers, it.written) != (
+                found[0].answers,
+                found[0].written,
+            ):
                 raise OSError("%s: the floor writes other bytes than boxglue" % case.name)
         return case.name, [(it.instructions, it.misses) for it in found]
 
@@ -78,21 +103,38 @@ def measured(work, case, counts):
     runs = runs_of(work, case)
     turns = 1 if case.large else 100 if case.name == "start" else 5
     costs = in_turn(runs, work.folder, turns, "/dev/null" if case.large else "out.txt")
-    return [Row(case, name, *it) for name, *it in zip(["boxglue", *(it.name for it in case.peers)], costs, counts or [None] * len(runs))]
+    return [
+        Row(case, name, *it)
+        for name, *it in zip(
+            ["boxglue", *(it.name for it in case.peers)], costs, counts or [None] * len(runs)
+        )
+    ]
 
 
 def ratio(ours, theirs):
-    text = "  ratio to %s: time %.2f, memory %.2f" % (theirs.program, ours.cost.seconds / theirs.cost.seconds, ours.cost.memory / theirs.cost.memory)
+    text = "  ratio to %s: time %.2f, memory %.2f" % (
+        theirs.program,
+        ours.cost.seconds / theirs.cost.seconds,
+        ours.cost.memory / theirs.cost.memory,
+    )
     if ours.instructions is None:
         return text
-    return text + ", instructions %.2f, D1 misses %.2f" % (ours.instructions / theirs.instructions, ours.misses / theirs.misses)
+    return text + ", instructions %.2f, D1 misses %.2f" % (
+        ours.instructions / theirs.instructions,
+        ours.misses / theirs.misses,
+    )
 
 
 def growth(first, last):
     """The cost of each further unit, from one case to a larger one."""
     units = last.case.units - first.case.units
-    return "  from %s to %s: %.3f us and %.0f bytes a %s" % (first.case.name, last.case.name,
-        (last.cost.seconds - first.cost.seconds) / units * 1e6, (last.cost.memory - first.cost.memory) / units, last.case.unit)
+    return "  from %s to %s: %.3f us and %.0f bytes a %s" % (
+        first.case.name,
+        last.case.name,
+        (last.cost.seconds - first.cost.seconds) / units * 1e6,
+        (last.cost.memory - first.cost.memory) / units,
+        last.case.unit,
+    )
 
 
 def power(first, last):
@@ -102,18 +144,46 @@ def power(first, last):
     return "  from %s to %s: units to the power %.2f" % (first.case.name, last.case.name, grown)
 
 
-GROWTHS = (("short_lines_100000", "short_lines_1000000"), ("small_pages_ship_6000", "small_pages_ship_60000"), ("small_pages_void_6000", "small_pages_void_60000"),
-    ("fonts_1", "fonts_201"), ("large_pages_2_10000", "large_pages_2_60000"), ("large_pages_256_10000", "large_pages_256_60000"),
-    ("large_script_100000", "large_script_1000000"), ("large_script_1000000", "large_script_10000000"), ("large_list_1", "large_list_14"), ("large_list_14", "large_list_140"))
+GROWTHS = (
+    ("short_lines_100000", "short_lines_1000000"),
+    ("small_pages_ship_6000", "small_pages_ship_60000"),
+    ("small_pages_void_6000", "small_pages_void_60000"),
+    ("fonts_1", "fonts_201"),
+    ("large_pages_2_10000", "large_pages_2_60000"),
+    ("large_pages_256_10000", "large_pages_256_60000"),
+    ("large_script_100000", "large_script_1000000"),
+    ("large_script_1000000", "large_script_10000000"),
+    ("large_list_1", "large_list_14"),
+    ("large_list_14", "large_list_140"),
+)
 
 
 def head(words):
     """The subject, time and machine of the measurement, as lines of a data file."""
-    model = [line.split(":")[1].strip() for line in open("/proc/cpuinfo") if line.startswith("model name")][:1]
-    yield "# bench/run.py, %s, %s, %s, %d cores, load %.1f at the start" % (datetime.date.today(), platform.system(), " ".join(model), os.cpu_count(), os.getloadavg()[0])
+    model = [
+        line.split(":")[1].strip()
+        for line in open("/proc/cpuinfo")
+        if line.startswith("model name")
+    ][:1]
+    yield "# bench/run.py, %s, %s, %s, %d cores, load %.1f at the start" % (
+        datetime.date.today(),
+        platform.system(),
+        " ".join(model),
+        os.cpu_count(),
+        os.getloadavg()[0],
+    )
     for peer in sorted({*PEERS.values(), *PROBES} - {"floor"}):
         if shutil.which(peer):
-            first = subprocess.run([peer, "--version"], stdout=subprocess.PIPE, stderr=subprocess.STDOUT, stdin=subprocess.DEVNULL).stdout.decode(errors="replace").splitlines()
+            first = (
+                subprocess.run(
+                    [peer, "--version"],
+                    stdout=subprocess.PIPE,
+                    stderr=subprocess.STDOUT,
+                    stdin=subprocess.DEVNULL,
+                )
+                .stdout.decode(errors="replace")
+                .splitlines()
+            )
             yield "# %s: %s" % (peer, first[0] if first else "")
     if words.note:
         yield "# " + words.note
@@ -123,8 +193,17 @@ def head(words):
 def more_peers():
     """Those of the peers that may be absent that run here."""
     with tempfile.TemporaryDirectory() as folder:
-        quiet = {"cwd": folder, "stdin": subprocess.DEVNULL, "stdout": subprocess.DEVNULL, "stderr": subprocess.DEVNULL}
-        return [name for name, words in PROBES.items() if shutil.which(words[0]) and subprocess.run(words, **quiet).returncode == 0]
+        quiet = {
+            "cwd": folder,
+            "stdin": subprocess.DEVNULL,
+            "stdout": subprocess.DEVNULL,
+            "stderr": subprocess.DEVNULL,
+        }
+        return [
+            name
+            for name, words in PROBES.items()
+            if shutil.which(words[0]) and subprocess.run(words, **quiet).returncode == 0
+        ]
 
 
 def missing(program, items):
@@ -139,18 +218,27 @@ def missing(program, items):
 
 
 def main():
-    parser = argparse.ArgumentParser(description=__doc__, formatter_class=argparse.RawDescriptionHelpFormatter)
-    parser.add_argument("--boxglue", default=os.environ.get("BOXGLUE", os.path.join(HERE, "../crates/boxglue/out/boxglue")))
+    parser = argparse.ArgumentParser(
+        description=__doc__, formatter_class=argparse.RawDescriptionHelpFormatter
+    )
+    parser.add_argument(
+        "--boxglue",
+        default=os.environ.get("BOXGLUE", os.path.join(HERE, "../crates/boxglue/out/boxglue")),
+    )
     parser.add_argument("--instructions", action="store_true", help="count instructions too")
     parser.add_argument("--large", action="store_true", help=", ".join(LARGE))
     parser.add_argument("--data", metavar="FILE", help="where the figures go")
-    parser.add_argument("--note", help="a line for the head of the file of data: which build this is")
+    parser.add_argument(
+        "--note", help="a line for the head of the file of data: which build this is"
+    )
     parser.add_argument("items", nargs="*", metavar="ITEM", help=", ".join(ITEMS))
     words = parser.parse_args()
     items = words.items or list(LARGE if words.large else ITEMS)
     if not set(items) <= set(ITEMS + LARGE):
         parser.error("the items are " + ", ".join(ITEMS + LARGE))
-    lacks = list(missing(words.boxglue, items)) + (["valgrind is not there"] if words.instructions and not shutil.which("valgrind") else [])
+    lacks = list(missing(words.boxglue, items)) + (
+        ["valgrind is not there"] if words.instructions and not shutil.which("valgrind") else []
+    )
     if lacks:
         sys.exit("\n".join(lacks))
     lines, found, more = list(head(words)), {}, more_peers()
@@ -164,7 +252,14 @@ def main():
             print("%s: %s" % (item, getattr(work, item).__doc__), flush=True)
             for case in cases[item]:
                 rows = measured(work, case, counts.get(case.name))
-                print("\n".join([" " + case.name] + [row.shown() for row in rows] + [ratio(rows[0], it) for it in rows[1:]]), flush=True)
+                print(
+                    "\n".join(
+                        [" " + case.name]
+                        + [row.shown() for row in rows]
+                        + [ratio(rows[0], it) for it in rows[1:]]
+                    ),
+                    flush=True,
+                )
                 lines += [row.data() for row in rows]
                 found[case.name] = rows[0]
             of_item = [found[case.name] for case in cases[item]]

@@ -16,7 +16,12 @@ TURNS = 5
 
 
 def start(program, folder):
-    return subprocess.Popen([program, "session", f"{folder}/out.dvi"], stdin=subprocess.PIPE, stdout=subprocess.PIPE, bufsize=0)
+    return subprocess.Popen(
+        [program, "session", f"{folder}/out.dvi"],
+        stdin=subprocess.PIPE,
+        stdout=subprocess.PIPE,
+        bufsize=0,
+    )
 
 
 def end(session):
@@ -53,7 +58,9 @@ def write_blocks(stream, count):
 def pipelined(program, count):
     """Lines a second, and the peak memory in megabytes."""
     with tempfile.TemporaryDirectory() as folder, start(program, folder) as session:
-        writer = threading.Thread(target=write_blocks, args=(os.fdopen(os.dup(session.stdin.fileno()), "wb"), count))
+        writer = threading.Thread(
+            target=write_blocks, args=(os.fdopen(os.dup(session.stdin.fileno()), "wb"), count)
+        )
         session.stdin.close()
         began = time.perf_counter()
         writer.start()
@@ -69,10 +76,17 @@ def pipelined(program, count):
 
 
 def main():
-    parser = argparse.ArgumentParser(description=__doc__, formatter_class=argparse.RawDescriptionHelpFormatter)
+    parser = argparse.ArgumentParser(
+        description=__doc__, formatter_class=argparse.RawDescriptionHelpFormatter
+    )
     parser.add_argument("programs", metavar="PROGRAM", nargs="+")
     parser.add_argument("--trips", type=int, default=100_000, help="round trips of a run (100,000)")
-    parser.add_argument("--lines", type=int, default=10_000_000, help="lines of the run without waiting, a multiple of 10,000 (10,000,000)")
+    parser.add_argument(
+        "--lines",
+        type=int,
+        default=10_000_000,
+        help="lines of the run without waiting, a multiple of 10,000 (10,000,000)",
+    )
     words = parser.parse_args()
     found = {program: [] for program in words.programs}
     for _ in range(TURNS):
@@ -81,8 +95,11 @@ def main():
     for program in words.programs:
         speed, memory = pipelined(program, words.lines)
         load = os.getloadavg()[0]
-        print(f"{program}: {max(found[program]):,.0f} round trips a second (least {min(found[program]):,.0f} of {TURNS} runs); "
-              f"{words.lines:,} lines: {speed:,.0f} a second, {memory:.1f} MB; load {load:.1f}", flush=True)
+        print(
+            f"{program}: {max(found[program]):,.0f} round trips a second (least {min(found[program]):,.0f} of {TURNS} runs); "
+            f"{words.lines:,} lines: {speed:,.0f} a second, {memory:.1f} MB; load {load:.1f}",
+            flush=True,
+        )
 
 
 if __name__ == "__main__":

@@ -15,29 +15,46 @@ from charts import DOCS, KNOWN, Figures
 # How the head of the table of programs begins; its columns, each with the figure in the data and how it is written; and its cases.
 PROGRAMS = "| case | program |"
 COSTS = {
-    "seconds": ("seconds", lambda value: f"{value:.3f}"), "million instructions": ("instructions", lambda value: f"{value / 1e6:,.0f}"),
-    "million D1 misses": ("misses", lambda value: f"{value / 1e6:.2f}"), "MB": ("memory", lambda value: f"{value / 1e6:.1f}"),
+    "seconds": ("seconds", lambda value: f"{value:.3f}"),
+    "million instructions": ("instructions", lambda value: f"{value / 1e6:,.0f}"),
+    "million D1 misses": ("misses", lambda value: f"{value / 1e6:.2f}"),
+    "MB": ("memory", lambda value: f"{value / 1e6:.1f}"),
 }
 BESIDE = {
-    "`paragraphs`, tolerance 200": "paragraphs_200", "`paragraphs`, tolerance 10000": "paragraphs_10000", "`list`": "list", "`paint`": "paint",
-    "`many_fonts`, 2 loaded": "many_fonts_2", "`many_fonts`, 256 loaded": "many_fonts_256",
+    "`paragraphs`, tolerance 200": "paragraphs_200",
+    "`paragraphs`, tolerance 10000": "paragraphs_10000",
+    "`list`": "list",
+    "`paint`": "paint",
+    "`many_fonts`, 2 loaded": "many_fonts_2",
+    "`many_fonts`, 256 loaded": "many_fonts_256",
 }
 # The rows of worst inputs: their case, and the one of half the size.
 WORST = {
     "`first_lines`, 2,000 places": ("first_lines_2000", "first_lines_1000"),
-    "`splits`, 4,000, falling widths": ("splits_falling_4000", "splits_falling_2000"), "`long_text`, 4 MB": ("long_text_4", "long_text_2"),
-    "`many_glyphs`, 4,000,000": ("many_glyphs_4", "many_glyphs_2"), "`many_numbers`, 10,000": ("many_numbers_10000", "many_numbers_5000"),
+    "`splits`, 4,000, falling widths": ("splits_falling_4000", "splits_falling_2000"),
+    "`long_text`, 4 MB": ("long_text_4", "long_text_2"),
+    "`many_glyphs`, 4,000,000": ("many_glyphs_4", "many_glyphs_2"),
+    "`many_numbers`, 10,000": ("many_numbers_10000", "many_numbers_5000"),
 }
 # The rows of large inputs, whose cases have run once: their case.
 LARGE = {
-    "`large_script`, 10,000,000 lines": "large_script_10000000", "`large_pages`, 60,000 pages, 2 fonts": "large_pages_2_60000",
-    "`large_pages`, 60,000 pages, 256 fonts": "large_pages_256_60000", "`large_list`, 140 MB": "large_list_140",
+    "`large_script`, 10,000,000 lines": "large_script_10000000",
+    "`large_pages`, 60,000 pages, 2 fonts": "large_pages_2_60000",
+    "`large_pages`, 60,000 pages, 256 fonts": "large_pages_256_60000",
+    "`large_list`, 140 MB": "large_list_140",
 }
 # The rows of what one unit more takes: the two cases that differ in it.
 MORE = {
-    "`short_lines`, each line more": ("short_lines_100000", "short_lines_1000000"), "`fonts`, each reading more": ("fonts_1", "fonts_201"),
-    "`small_pages`, each box more that is shipped": ("small_pages_ship_6000", "small_pages_ship_60000"),
-    "`small_pages`, each box more that is made void": ("small_pages_void_6000", "small_pages_void_60000"),
+    "`short_lines`, each line more": ("short_lines_100000", "short_lines_1000000"),
+    "`fonts`, each reading more": ("fonts_1", "fonts_201"),
+    "`small_pages`, each box more that is shipped": (
+        "small_pages_ship_6000",
+        "small_pages_ship_60000",
+    ),
+    "`small_pages`, each box more that is made void": (
+        "small_pages_void_6000",
+        "small_pages_void_60000",
+    ),
 }
 
 
@@ -56,17 +73,33 @@ def cost_cell(figures, case, program, column):
     what, written = COSTS[column]
     known = figures.rows[case][program].get(what)
     ratio = figures.ratio(case, what, program)
-    return "" if not known else written(float(known)) if ratio is None else f"{written(float(known))} ({ratio:.2f})"
+    return (
+        ""
+        if not known
+        else written(float(known))
+        if ratio is None
+        else f"{written(float(known))} ({ratio:.2f})"
+    )
 
 
 def programs_table(figures):
     """The lines of the table of programs. A column without a figure is left out."""
-    columns = [it for it, (what, _) in COSTS.items() if any(row.get(what) for case in BESIDE.values() for row in figures.rows[case].values())]
+    columns = [
+        it
+        for it, (what, _) in COSTS.items()
+        if any(row.get(what) for case in BESIDE.values() for row in figures.rows[case].values())
+    ]
     yield line_of(["case", "program", *columns])
     yield "|---" * (2 + len(columns)) + "|"
     for name, case in BESIDE.items():
         for program in figures.rows[case]:
-            yield line_of([name if program == "boxglue" else "", program, *(cost_cell(figures, case, program, it) for it in columns)])
+            yield line_of(
+                [
+                    name if program == "boxglue" else "",
+                    program,
+                    *(cost_cell(figures, case, program, it) for it in columns),
+                ]
+            )
 
 
 def line_of(cells):
@@ -97,7 +130,9 @@ def more(figures, case):
     """What one unit more takes: microseconds, instructions, and bytes of memory."""
     few, many = (figures.rows[it]["boxglue"] for it in MORE[case])
     units = int(many["units"]) - int(few["units"])
-    return [(float(many[it]) - float(few[it])) / units for it in ("seconds", "instructions", "memory")]
+    return [
+        (float(many[it]) - float(few[it])) / units for it in ("seconds", "instructions", "memory")
+    ]
 
 
 def more_cells(figures, case):
@@ -113,19 +148,26 @@ def more_cells(figures, case):
 def lines_cells(figures, count):
     """The cells of a row of so many short lines."""
     case = f"short_lines_{count.replace(',', '')}"
-    return [f"{totals(figures.rows[case]['boxglue'])}: {figures.each(case, 'boxglue', 'seconds') * 1e6:.2f} us a line"]
+    return [
+        f"{totals(figures.rows[case]['boxglue'])}: {figures.each(case, 'boxglue', 'seconds') * 1e6:.2f} us a line"
+    ]
 
 
 def start_cells(figures):
     """The cells of the row of an empty script."""
     row = figures.rows["start"]["boxglue"]
-    return [f"{float(row['seconds']) * 1e3:.1f} ms, {millions(int(row['instructions']))}, {int(row['memory']) / 1e6:.1f} MB"]
+    return [
+        f"{float(row['seconds']) * 1e3:.1f} ms, {millions(int(row['instructions']))}, {int(row['memory']) / 1e6:.1f} MB"
+    ]
 
 
 def place_cells(figures, width, tolerance, places):
     """The cells of a row of what a place takes."""
     case = f"places_{width}_{tolerance}_{places.replace(',', '')}"
-    each = [f"{figures.each(case, it, 'seconds') * 1e6:.2f} us, {figures.each(case, it, 'instructions'):,.0f}" for it in ("boxglue", "tex")]
+    each = [
+        f"{figures.each(case, it, 'seconds') * 1e6:.2f} us, {figures.each(case, it, 'instructions'):,.0f}"
+        for it in ("boxglue", "tex")
+    ]
     return [*each, *[f"{figures.ratio(case, it):.2f}" for it in ("seconds", "instructions")]]
 
 
@@ -172,7 +214,9 @@ def page_of(figures, lines):
 
 def main():
     """Reads the figures and writes the page."""
-    parser = argparse.ArgumentParser(description=__doc__, formatter_class=argparse.RawDescriptionHelpFormatter)
+    parser = argparse.ArgumentParser(
+        description=__doc__, formatter_class=argparse.RawDescriptionHelpFormatter
+    )
     parser.add_argument("data", nargs="*", default=KNOWN, metavar="DATA")
     parser.add_argument("--page", default=os.path.join(DOCS, "SPEED.md"))
     given = parser.parse_args()

@@ -49,6 +49,7 @@ def least(job, run):
 def in_python():
     """The line of Python. The library is in BOXGLUE_LIBRARY."""
     import boxglue
+
     with boxglue.Job() as job:
         print("Python", *(f"{least(job, it):.3f}" for it in (by_batch, by_text, fill)), sep="\t")
 
@@ -56,16 +57,40 @@ def in_python():
 def main(archive):
     """Builds what the languages need, and runs all of them."""
     with tempfile.TemporaryDirectory(prefix="boxglue-typed-") as room:
+
         def run(*words, **env):
             subprocess.run(words, cwd=room, env={**os.environ, **env}, check=True)
+
         run(f"{ROOT}/bindings/build", os.path.abspath(archive), f"{room}/libboxglue.so")
         run(f"{ROOT}/bindings/build", "--static", os.path.abspath(archive), f"{room}/libboxglue.a")
-        run("cc", "-O2", f"-I{ROOT}/include", f"{ROOT}/bench/typed/typed.c", "libboxglue.a", "-o", "typed")
+        run(
+            "cc",
+            "-O2",
+            f"-I{ROOT}/include",
+            f"{ROOT}/bench/typed/typed.c",
+            "libboxglue.a",
+            "-o",
+            "typed",
+        )
         with open(f"{room}/Cargo.toml", "w", encoding="utf-8") as it:
             it.write(MANIFEST % (ROOT, ROOT))
-        run(sys.executable, "-B", os.path.abspath(__file__), BOXGLUE_LIBRARY=f"{room}/libboxglue.so", PYTHONPATH=f"{ROOT}/bindings/python")
+        run(
+            sys.executable,
+            "-B",
+            os.path.abspath(__file__),
+            BOXGLUE_LIBRARY=f"{room}/libboxglue.so",
+            PYTHONPATH=f"{ROOT}/bindings/python",
+        )
         run("./typed")
-        run("cargo", "run", "--quiet", "--offline", "--release", BOXGLUE_LIB_DIR=room, CARGO_TARGET_DIR=f"{room}/target")
+        run(
+            "cargo",
+            "run",
+            "--quiet",
+            "--offline",
+            "--release",
+            BOXGLUE_LIB_DIR=room,
+            CARGO_TARGET_DIR=f"{room}/target",
+        )
 
 
 if __name__ == "__main__":

@@ -72,7 +72,9 @@ def look_at(look):
 
 def run(words, folder, log, look):
     """Runs a command in a folder, calls `look` each second until it has ended, and returns its status."""
-    with subprocess.Popen(words, cwd=folder, stdin=subprocess.DEVNULL, stdout=log, stderr=log, start_new_session=True) as started:
+    with subprocess.Popen(
+        words, cwd=folder, stdin=subprocess.DEVNULL, stdout=log, stderr=log, start_new_session=True
+    ) as started:
         running.append(started.pid)
         # A signal that came before this line found nothing to end.
         if signals:
@@ -95,6 +97,7 @@ def done(words, folder, what, end, wrong):
     def look():
         if is_quiet():
             say(f"{what}: {time.monotonic() - since:.0f} s")
+
     with tempfile.TemporaryFile() as log:
         status, text = run(words, folder, log, look), text_of(log)
     if status != 0:

@@ -17,6 +17,7 @@ def crates_below(uses, names):
             for below in uses[crate]:
                 add(below)
             found.append(crate)
+
     for name in names:
         add(name)
     return found

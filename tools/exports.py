@@ -44,25 +44,49 @@ def zero(root, kind):
     if NUMBER.fullmatch(kind):
         return f"0{kind}"
     place, fields = home(root, kind)
-    return f"{place}::{kind} {{ {', '.join(f'{name}: {zero(root, its)}' for name, its in fields)} }}"
+    return (
+        f"{place}::{kind} {{ {', '.join(f'{name}: {zero(root, its)}' for name, its in fields)} }}"
+    )
 
 
 def argument(root, name, kind):
     """The argument for a parameter, and the line that makes what it borrows. A slice is empty."""
-    known = {"Global": "alloc", "&mut JobHandle": "&mut job"}.get(kind) or ("&[]" if kind.startswith("&[") else None)
+    known = {"Global": "alloc", "&mut JobHandle": "&mut job"}.get(kind) or (
+        "&[]" if kind.startswith("&[") else None
+    )
     if known or not kind.startswith("&mut "):
         return known or zero(root, kind), ""
     items = re.fullmatch(r"&mut \[(\w+)\]", kind)
-    return f"&mut {name}", f"let mut {name}: [{items[1]}; 0] = [];" if items else f"let mut {name} = {zero(root, kind.removeprefix('&mut '))};"
+    return (
+        f"&mut {name}",
+        f"let mut {name}: [{items[1]}; 0] = [];"
+        if items
+        else f"let mut {name} = {zero(root, kind.removeprefix('&mut '))};",
+    )
 
 
 def lines_of(root, call):
     """The lines that make a call on empty inputs."""
     taken = [argument(root, *it) for it in exports(root)[call]]
-    return ["{", *(f"    {it}" for _, it in taken if it), f"    let _ = {call}({', '.join(it for it, _ in taken)});", "}"]
+    return [
+        "{",
+        *(f"    {it}" for _, it in taken if it),
+        f"    let _ = {call}({', '.join(it for it, _ in taken)});",
+        "}",
+    ]
 
 
 def main_of(root):
     """The lines of the library's crate as those of a program, whose `main` makes each call of the header."""
-    body = ["let alloc = rt.alloc();", "let mut job = boxglue_calls::jobs::JobHandle::null();", *(line for it in calls(root) for line in lines_of(root, it)), "job.release(alloc);"]
-    return [read(f"{root}/{EXPORTS}"), "\nfn main(rt: HostRuntime) {\n", *(f"    {it}\n" for it in body), "}\n"]
+    body = [
+        "let alloc = rt.alloc();",
+        "let mut job = boxglue_calls::jobs::JobHandle::null();",
+        *(line for it in calls(root) for line in lines_of(root, it)),
+        "job.release(alloc);",
+    ]
+    return [
+        read(f"{root}/{EXPORTS}"),
+        "\nfn main(rt: HostRuntime) {\n",
+        *(f"    {it}\n" for it in body),
+        "}\n",
+    ]

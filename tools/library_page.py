@@ -74,8 +74,12 @@ def parts(comment):
     """Return the brief sentence of a comment, what follows it, its parameters, and what it says of the result."""
     text = content(comment)
     text, *tags = re.split(r"^@(?=param|return)", text, flags=re.M)
-    brief, _, more = text.partition("@brief ")[2].partition("\n\n") if "@brief" in text else (text, "", "")
-    parameters = [it.removeprefix("param ").split("  ", 1) for it in tags if it.startswith("param ")]
+    brief, _, more = (
+        text.partition("@brief ")[2].partition("\n\n") if "@brief" in text else (text, "", "")
+    )
+    parameters = [
+        it.removeprefix("param ").split("  ", 1) for it in tags if it.startswith("param ")
+    ]
     result = next((it.removeprefix("return ") for it in tags if it.startswith("return ")), "")
     return brief.strip(), more.strip(), parameters, result
 
@@ -106,7 +110,9 @@ def members(body):
     made = []
     for comment, declared in found:
         if declared.strip():
-            made.append(f".TP\n.B {escaped(declared)}\n{escaped(content(comment)) if comment else '.PD 0' + chr(10) + '.PD'}\n")
+            made.append(
+                f".TP\n.B {escaped(declared)}\n{escaped(content(comment)) if comment else '.PD 0' + chr(10) + '.PD'}\n"
+            )
     return "".join(made)
 
 
@@ -124,8 +130,18 @@ def page():
     functions = re.findall(rf"{COMMENT}\n(uint32_t|void) (boxglue_\w+)\(([^;]*)\);", header, re.S)
     kinds = re.findall(rf"{COMMENT}\n((?:struct|enum) boxglue_\w+) \{{(.*?)\n?\}};", header, re.S)
     shown = "".join(prototype(*it[1:]) for it in functions)
-    made = [f".\\\" Written by tools/library_page.py\n.TH BOXGLUE 3 {title[1]} {title[2]} \"Library Functions Manual\"\n", HEAD, shown, ".fi\n"]
-    made += [".SH DESCRIPTION\n", paragraphs(about[1]), ".SH FUNCTIONS\n", *(function(it[0], it[2]) for it in functions)]
+    made = [
+        f'.\\" Written by tools/library_page.py\n.TH BOXGLUE 3 {title[1]} {title[2]} "Library Functions Manual"\n',
+        HEAD,
+        shown,
+        ".fi\n",
+    ]
+    made += [
+        ".SH DESCRIPTION\n",
+        paragraphs(about[1]),
+        ".SH FUNCTIONS\n",
+        *(function(it[0], it[2]) for it in functions),
+    ]
     made += [".SH TYPES\n", *(kind(*it) for it in kinds), TAIL]
     return "".join(made)
 

@@ -34,7 +34,10 @@ def cores():
     """How many cores there are for this process."""
     mine = os.sched_getaffinity(0)
     # The first number of the list is the same for all threads of a core.
-    firsts = {number_in(f"/sys/devices/system/cpu/cpu{it}/topology/thread_siblings_list", r"^(\d+)") for it in mine}
+    firsts = {
+        number_in(f"/sys/devices/system/cpu/cpu{it}/topology/thread_siblings_list", r"^(\d+)")
+        for it in mine
+    }
     whole = len(mine if None in firsts else firsts)
     return min([whole, *(max(quota // period, 1) for quota, period in pairs(QUOTAS))])
 

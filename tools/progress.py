@@ -40,13 +40,20 @@ class Progress:
         self.used = {below for it in uses for below in uses[it]}
         # `rt all` hands out the crates in this order.
         self.order = sorted(crates_below(uses, sorted(uses)), key=lambda it: len(self.below[it]))
-        self.cost = {it: CRATE + LINE * sum(count_lines(f"{tree}/crates/{it}/{part}") for part in ("src", "specs", "proofs")) for it in uses}
+        self.cost = {
+            it: CRATE
+            + LINE
+            * sum(count_lines(f"{tree}/crates/{it}/{part}") for part in ("src", "specs", "proofs"))
+            for it in uses
+        }
         # Whether all is read, when each crate began that is under way, and the seconds of each that has ended.
         self.is_read, self.since, self.took = False, {}, {}
 
     def update(self, text):
         """Takes all that was printed so far, and returns the crates that have ended since the last call."""
-        now, ended = time.monotonic(), [it for it in sections(text) if it in self.below and it not in self.took]
+        now, ended = time.monotonic(), [
+            it for it in sections(text) if it in self.below and it not in self.took
+        ]
         for crate in ended:
             self.took[crate] = now - self.since.pop(crate, now)
         readings = len(re.findall(r"^only=", text, flags=re.M))
@@ -57,7 +64,9 @@ class Progress:
 
     def under_way(self):
         """The crates that are being proved. Each worker of `rt all` has a crate, and waits for those below it."""
-        taken = [it for it in self.order if it not in self.took][:self.jobs] if self.is_read else []
+        taken = (
+            [it for it in self.order if it not in self.took][: self.jobs] if self.is_read else []
+        )
         return [it for it in taken if self.took.keys() >= {*self.below[it]}]
 
     def has_library(self, crate):
@@ -66,7 +75,9 @@ class Progress:
 
     def is_kept(self, crate):
         """Whether a crate need not be proved, as far as one can tell: a library does not fit where one below it is new."""
-        return self.has_library(crate) and not any(it in self.since or self.took.get(it, 0) > SHORT for it in self.below[crate])
+        return self.has_library(crate) and not any(
+            it in self.since or self.took.get(it, 0) > SHORT for it in self.below[crate]
+        )
 
     def failed(self):
         """The crates that others use and that are not proved, of those that have ended."""
@@ -78,13 +89,25 @@ class Progress:
         pace = (TRUSTED + sum(map(self.took.get, anew))) / (TRUSTED + sum(map(self.cost.get, anew)))
         ends, workers = dict.fromkeys(self.took, 0), [0] * self.jobs
         for crate in [it for it in self.order if it not in self.took]:
-            seconds = 0 if self.is_kept(crate) else max(pace * self.cost[crate] - now + self.since.get(crate, now), 1)
+            seconds = (
+                0
+                if self.is_kept(crate)
+                else max(pace * self.cost[crate] - now + self.since.get(crate, now), 1)
+            )
             workers.sort()
-            workers[0] = ends[crate] = max([workers[0], *map(ends.get, self.below[crate])]) + seconds
-        reading = 0 if self.is_read else max(READING * (len(self.below) - len(self.used)) - now + self.began, 0)
+            workers[0] = ends[crate] = (
+                max([workers[0], *map(ends.get, self.below[crate])]) + seconds
+            )
+        reading = (
+            0
+            if self.is_read
+            else max(READING * (len(self.below) - len(self.used)) - now + self.began, 0)
+        )
         return reading + max(ends.values())
 
     def text(self):
         """How many crates are left, and for about how long."""
         left = len(self.order) - len(self.took)
-        return f"{left} of {len(self.order)} left" + (f", about {max(round(self.seconds_left() / 60), 1)} min" if left else "")
+        return f"{left} of {len(self.order)} left" + (
+            f", about {max(round(self.seconds_left() / 60), 1)} min" if left else ""
+        )

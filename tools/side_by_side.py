@@ -28,7 +28,9 @@ def jobs_that_fit():
 def uses_of(root, names):
     """The crates that these are built of, and they themselves, the lowest first: each with the crates of the repository that it names."""
     found = libraries(root)
-    return {crate: [it for it in found[crate] if it in found] for crate in crates_below(found, names)}
+    return {
+        crate: [it for it in found[crate] if it in found] for crate in crates_below(found, names)
+    }
 
 
 def move_kept(crates, source, target):
@@ -43,7 +45,9 @@ def move_kept(crates, source, target):
 def write_lists(root, tree, crates):
     """Writes what `rt` has to know of a tree of these crates."""
     shutil.copyfile(f"{root}/HANDLES", f"{tree}/HANDLES")
-    with open(f"{root}/crates.txt", encoding="ascii") as lines, open(f"{tree}/crates.txt", "w", encoding="ascii") as it:
+    with open(f"{root}/crates.txt", encoding="ascii") as lines, open(
+        f"{tree}/crates.txt", "w", encoding="ascii"
+    ) as it:
         it.writelines(line for line in lines if re.match(r"\w*", line)[0] in crates)
 
 
@@ -87,7 +91,9 @@ def show(progress, text):
     if proved:
         say(f"{', '.join(proved)}: proved; {progress.text()}")
     if is_quiet():
-        say(f"{'proving ' + ', '.join(progress.under_way()) if progress.is_read else 'reading all'}; {progress.text()}")
+        say(
+            f"{'proving ' + ', '.join(progress.under_way()) if progress.is_read else 'reading all'}; {progress.text()}"
+        )
 
 
 def why_not(progress, text):
@@ -104,7 +110,12 @@ def prove(root, names, jobs):
     with tree_of(root, uses) as tree, tempfile.TemporaryFile() as log:
         progress = Progress(tree, uses, jobs)
         say(f"{len(uses)} crates, {jobs} at a time: {progress.text()}")
-        status = run(["rt", "all", "check", "--jobs", str(jobs)], tree, log, lambda: show(progress, text_of(log)))
+        status = run(
+            ["rt", "all", "check", "--jobs", str(jobs)],
+            tree,
+            log,
+            lambda: show(progress, text_of(log)),
+        )
         show(progress, text_of(log))
         if status:
             raise Failed(why_not(progress, text_of(log)))

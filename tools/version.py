@@ -17,17 +17,32 @@ PLACES = [
     ("crates/boxglue_words/src/task.rt", rf'(?<=VERSION_LINE: &str = "boxglue ){DOTTED}'),
     ("crates/boxglue_calls/src/edition.rt", rf"(?<=ensures {{ result ≡ ){NUMBER}"),
     ("crates/boxglue_calls/src/edition.rt", rf"(?<=\n    ){NUMBER}(?=\n)"),
-    ("crates/boxglue_c/src/lib.rt", rf"(?<=boxglue_version\(\) -> u32\n    ensures {{ result ≡ ){NUMBER}"),
+    (
+        "crates/boxglue_c/src/lib.rt",
+        rf"(?<=boxglue_version\(\) -> u32\n    ensures {{ result ≡ ){NUMBER}",
+    ),
     ("crates/tests_calls/src/scripts.rt", rf"(?<=version\(\), ){NUMBER}"),
     ("docs/boxglue.1", rf'(?<=\d "boxglue ){DOTTED}'),
     ("docs/boxglue.1", rf'(?<=\.BR "boxglue ){DOTTED}'),
     ("bindings/python/boxglue/__init__.py", rf'(?<=__version__ = "){DOTTED}'),
-    *(("bindings/python/README.md", rf"(?<={before}){DOTTED}") for before in ("library's version, such as ", "has a version such as ")),
-    *(("bindings/wheel", rf"(?<={before}){DOTTED}") for before in ("\nthe version ", "which sorts below ")),
+    *(
+        ("bindings/python/README.md", rf"(?<={before}){DOTTED}")
+        for before in ("library's version, such as ", "has a version such as ")
+    ),
+    *(
+        ("bindings/wheel", rf"(?<={before}){DOTTED}")
+        for before in ("\nthe version ", "which sorts below ")
+    ),
     ("bindings/rust/Cargo.toml", rf'(?<=\nversion = "){DOTTED}'),
     ("bindings/rust/boxglue/Cargo.toml", rf'(?<="../boxglue-sys", version = "){DOTTED}'),
-    *(("bindings/rust/Cargo.lock", rf'(?<=\nname = "{name}"\nversion = "){DOTTED}') for name in ("boxglue", "boxglue-sys")),
-    *((f"tests/cases/program/{name}/stdout", rf"(?<=boxglue ){DOTTED}") for name in ("version", "version_before_other_words", "version_by_its_short_option")),
+    *(
+        ("bindings/rust/Cargo.lock", rf'(?<=\nname = "{name}"\nversion = "){DOTTED}')
+        for name in ("boxglue", "boxglue-sys")
+    ),
+    *(
+        (f"tests/cases/program/{name}/stdout", rf"(?<=boxglue ){DOTTED}")
+        for name in ("version", "version_before_other_words", "version_by_its_short_option")
+    ),
 ]
 
 
@@ -62,7 +77,17 @@ def write(root, text):
     for path, pattern in [(HEADER, DEFINED), *PLACES]:
         old = read(root, path)
         with open(f"{root}/{path}", "w", encoding="utf-8") as it:
-            it.write(re.sub(pattern, lambda found: text if "." in found[0] else f"{value:_}" if "_" in found[0] else str(value), old))
+            it.write(
+                re.sub(
+                    pattern,
+                    lambda found: text
+                    if "." in found[0]
+                    else f"{value:_}"
+                    if "_" in found[0]
+                    else str(value),
+                    old,
+                )
+            )
 
 
 def main(words):

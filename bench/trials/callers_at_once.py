@@ -27,7 +27,11 @@ SCRIPT = "page_of_text.box"
 DEEP = "hbox into 1\nrule 1pt 1pt 0pt\nend\n" + "hbox into 1\nbox 1\nend\n" * 199 + "ship 1\n"
 BUILDS = {"plain": [], "address": ["-fsanitize=address,undefined"], "thread": ["-fsanitize=thread"]}
 VALGRIND = {
-    "memcheck": ["--leak-check=full", "--errors-for-leak-kinds=definite", "--show-leak-kinds=definite"],
+    "memcheck": [
+        "--leak-check=full",
+        "--errors-for-leak-kinds=definite",
+        "--show-leak-kinds=definite",
+    ],
     "helgrind": [],
     "drd": [],
 }
@@ -39,7 +43,9 @@ def build(archive, folder, name):
     """Builds the caller, and returns its path."""
     out = f"{folder}/caller_{name}"
     flags = ["-D_GNU_SOURCE", "-pthread", *BUILDS[name], f"-I{ROOT}/bindings/c"]
-    wrong = compile_c(ROOT, archive, [f"{HERE}/callers_at_once.c", f"{ROOT}/bindings/c/inputs.c"], out, flags)
+    wrong = compile_c(
+        ROOT, archive, [f"{HERE}/callers_at_once.c", f"{ROOT}/bindings/c/inputs.c"], out, flags
+    )
     if wrong:
         sys.exit(f"the caller is not built: {wrong}")
     return out
@@ -61,9 +67,14 @@ def commands(archive, folder, way):
 def run(name, words, env, folder):
     """Runs a command. Returns whether it was well."""
     start = time.monotonic()
-    ran = subprocess.run(words, cwd=folder, env=env, stdin=subprocess.DEVNULL, capture_output=True, timeout=LIMIT)
+    ran = subprocess.run(
+        words, cwd=folder, env=env, stdin=subprocess.DEVNULL, capture_output=True, timeout=LIMIT
+    )
     is_well = ran.returncode == 0 and not ran.stderr
-    print(f"{name}: {'well' if is_well else f'status {ran.returncode}'}, {time.monotonic() - start:.0f} s, {ran.stdout.decode(errors='replace').strip().replace(chr(10), '; ')}", flush=True)
+    print(
+        f"{name}: {'well' if is_well else f'status {ran.returncode}'}, {time.monotonic() - start:.0f} s, {ran.stdout.decode(errors='replace').strip().replace(chr(10), '; ')}",
+        flush=True,
+    )
     if not is_well:
         print(ran.stderr.decode(errors="replace")[-3000:], flush=True)
     return is_well
@@ -81,10 +92,14 @@ def runs_in_c(archive, folder, way, workers, rounds):
 
 def main():
     ways = [*(f"c:{it}" for it in C_WAYS), *(f"python:{it}" for it in PYTHON_WAYS)]
-    parser = argparse.ArgumentParser(description=__doc__, formatter_class=argparse.RawDescriptionHelpFormatter)
+    parser = argparse.ArgumentParser(
+        description=__doc__, formatter_class=argparse.RawDescriptionHelpFormatter
+    )
     parser.add_argument("--archive", required=True)
     parser.add_argument("--workers", type=int, default=8, help="how many threads or processes (8)")
-    parser.add_argument("--rounds", type=int, default=200, help="how often each makes all calls (200)")
+    parser.add_argument(
+        "--rounds", type=int, default=200, help="how often each makes all calls (200)"
+    )
     parser.add_argument("ways", nargs="*", metavar="WAY", help=", ".join(ways))
     words = parser.parse_args()
     for way in words.ways:
@@ -97,12 +112,25 @@ def main():
         for name, data in (("script", script.encode()), ("plain.tfm", metric_file())):
             with open(f"{folder}/{name}", "wb") as it:
                 it.write(data)
-        env = {**os.environ, "BOXGLUE_LIBRARY": build_shared(ROOT, archive), "PYTHONPATH": f"{ROOT}/bindings/python", "PYTHONDONTWRITEBYTECODE": "1"}
+        env = {
+            **os.environ,
+            "BOXGLUE_LIBRARY": build_shared(ROOT, archive),
+            "PYTHONPATH": f"{ROOT}/bindings/python",
+            "PYTHONDONTWRITEBYTECODE": "1",
+        }
         for language, _, way in (it.partition(":") for it in words.ways or ways):
             if language == "c":
                 wells.append(runs_in_c(archive, folder, way, words.workers, words.rounds))
             else:
-                command = [sys.executable, f"{HERE}/python_at_once.py", way, str(words.workers), str(words.rounds), "script", "plain.tfm"]
+                command = [
+                    sys.executable,
+                    f"{HERE}/python_at_once.py",
+                    way,
+                    str(words.workers),
+                    str(words.rounds),
+                    "script",
+                    "plain.tfm",
+                ]
                 wells.append(run(f"{way} in Python", command, env, folder))
     print("all were well" if all(wells) else "some went wrong")
     sys.exit(not all(wells))

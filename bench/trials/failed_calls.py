@@ -22,20 +22,32 @@ LIMIT = 60
 FONT = "cmr10=plain.tfm"
 SCRIPT = "page_of_text.box"
 TASKS = {
-    "typeset": ["typeset", "out.dvi", FONT], "session": ["session", "out.dvi", FONT], "memory": [], "list": ["list", "page.dvi", FONT], "fonts": ["fonts", "page.dvi"],
+    "typeset": ["typeset", "out.dvi", FONT],
+    "session": ["session", "out.dvi", FONT],
+    "memory": [],
+    "list": ["list", "page.dvi", FONT],
+    "fonts": ["fonts", "page.dvi"],
     "paint": [*"paint --page 1 --dpi 72 --width 300 --height 300 page.dvi".split(), FONT],
 }
 # A brk that fails returns the old end of the heap, and no error; the C library compares it with the end that it asked for.
 ERRORS = {
-    "read": "EIO EINTR EAGAIN EISDIR EBADF", "write": "EIO ENOSPC EINTR EAGAIN EPIPE EFBIG EBADF", "openat": "EACCES EMFILE EINTR ENOENT ENOSPC EROFS", "close": "EIO EINTR ENOSPC",
-    "brk": "0", "mmap": "ENOMEM", "munmap": "ENOMEM", "exit_group": "",
+    "read": "EIO EINTR EAGAIN EISDIR EBADF",
+    "write": "EIO ENOSPC EINTR EAGAIN EPIPE EFBIG EBADF",
+    "openat": "EACCES EMFILE EINTR ENOENT ENOSPC EROFS",
+    "close": "EIO EINTR ENOSPC",
+    "brk": "0",
+    "mmap": "ENOMEM",
+    "munmap": "ENOMEM",
+    "exit_group": "",
 }
 OTHER_ERRORS = "EINVAL ENOSYS"
 CALL = re.compile(r"(\w+)\((-?\w+)?")
 # The program's own calls begin with this one; those before are of the shell and of the loader.
 FIRST = "rt_sigaction(SIGPIPE"
 LINE = re.compile(rb"(?:(\d+|end): )?(.*)\n")
-REFUSED = re.compile(rb"refused (?:1 OutOfMemory|18 Device|19 JobOver|21 VoidBox|4 NoFont|7 NoOpenList|8 WrongMode|17 ListsOpen)")
+REFUSED = re.compile(
+    rb"refused (?:1 OutOfMemory|18 Device|19 JobOver|21 VoidBox|4 NoFont|7 NoOpenList|8 WrongMode|17 ListsOpen)"
+)
 
 
 class Traced:
@@ -53,8 +65,26 @@ class Traced:
         inject = ["-e", f"inject={fails[0]}:{gives}={fails[1]}:when={fails[2]}"] if fails else []
         shell = 'exec "$@" ' + " ".join(f"{it}>&-" if it else "<&-" for it in closed)
         with open(f"{self.folder}/script", "rb") as given:
-            words = ["strace", "-o", log, *inject, "/bin/sh", "-c", shell, "sh", self.program, *TASKS[task]]
-            ran = subprocess.run(words, cwd=self.folder, env={"LANG": "C.UTF-8"}, stdin=given, capture_output=True, timeout=LIMIT)
+            words = [
+                "strace",
+                "-o",
+                log,
+                *inject,
+                "/bin/sh",
+                "-c",
+                shell,
+                "sh",
+                self.program,
+                *TASKS[task],
+            ]
+            ran = subprocess.run(
+                words,
+                cwd=self.folder,
+                env={"LANG": "C.UTF-8"},
+                stdin=given,
+                capture_output=True,
+                timeout=LIMIT,
+            )
         with open(log, encoding="latin-1") as it:
             lines = it.read().splitlines()
         data = None
@@ -80,7 +110,10 @@ def calls_of(lines):
 def same_answers(output, whole):
     """Whether answers are those of the whole run, but for refusals; or a beginning of them; or memory was refused for all."""
     lines, wholes = LINE.findall(output), LINE.findall(whole)
-    return all(number == other and (text == its or REFUSED.match(text)) for (number, text), (other, its) in zip(lines, wholes)) or lines[-1:] == [(b"", b"refused 1 OutOfMemory")]
+    return all(
+        number == other and (text == its or REFUSED.match(text))
+        for (number, text), (other, its) in zip(lines, wholes)
+    ) or lines[-1:] == [(b"", b"refused 1 OutOfMemory")]
 
 
 def check(task, closed, failed, ran, whole):
@@ -90,14 +123,49 @@ def check(task, closed, failed, ran, whole):
     runs, is_output = task in ("typeset", "session", "memory"), name == "write" and first == "1"
     require(status in (0, 1), "the status is %d, %r", status, errors[-200:])
     require(status or ran == whole, "the status is 0, and the run is another")
-    is_told = b"refused" in output or is_output or (name, first) == ("write", "2") or 1 in closed or 2 in closed
-    require(not status or message and message[1] or not errors and is_told, "status 1, %r, %r", output[-100:], errors)
+    is_told = (
+        b"refused" in output
+        or is_output
+        or (name, first) == ("write", "2")
+        or 1 in closed
+        or 2 in closed
+    )
+    require(
+        not status or message and message[1] or not errors and is_told,
+        "status 1, %r, %r",
+        output[-100:],
+        errors,
+    )
     require((whole[3] or b"").startswith(made or b""), "the file is no beginning")
-    require(whole[1].startswith(output) or runs and same_answers(output, whole[1]) or not runs and output == b"refused 1 OutOfMemory\n", "the answers are %r", output[-300:])
-    if name in ("read", "write") and error == "EINTR" or is_output and error == "EAGAIN" or task == "session" and (name, first, error) == ("read", "0", "EAGAIN"):
-        require(ran == whole, "it is interrupted or has to wait, and the run is another: status %d, %r", status, errors)
+    require(
+        whole[1].startswith(output)
+        or runs
+        and same_answers(output, whole[1])
+        or not runs
+        and output == b"refused 1 OutOfMemory\n",
+        "the answers are %r",
+        output[-300:],
+    )
+    if (
+        name in ("read", "write")
+        and error == "EINTR"
+        or is_output
+        and error == "EAGAIN"
+        or task == "session"
+        and (name, first, error) == ("read", "0", "EAGAIN")
+    ):
+        require(
+            ran == whole,
+            "it is interrupted or has to wait, and the run is another: status %d, %r",
+            status,
+            errors,
+        )
     elif is_output:
-        require(status == 1 and made == whole[3], "the output fails with status %d, and the file is another", status)
+        require(
+            status == 1 and made == whole[3],
+            "the output fails with status %d, and the file is another",
+            status,
+        )
 
 
 def try_task(traced, task, closed, counts):
@@ -111,19 +179,29 @@ def try_task(traced, task, closed, counts):
             try:
                 check(task, closed, (name, first, number, error), ran, whole)
             except Wrong as why:
-                wrong.append(f"{task}, closed {list(closed)}, call {number} of {name}({first}) gives {error}: {why}")
+                wrong.append(
+                    f"{task}, closed {list(closed)}, call {number} of {name}({first}) gives {error}: {why}"
+                )
                 print(wrong[-1], flush=True)
     return wrong
 
 
 def main():
     parser = parser_of(__doc__)
-    parser.add_argument("--closed", action="store_true", help="also with each set of standard streams closed")
+    parser.add_argument(
+        "--closed", action="store_true", help="also with each set of standard streams closed"
+    )
     parser.add_argument("tasks", nargs="*", metavar="TASK", help=", ".join(TASKS))
     words = parser.parse_args()
     program, counts, wrong = os.path.abspath(words.boxglue), collections.Counter(), []
-    sets = [it for size in range(4 if words.closed else 1) for it in itertools.combinations(range(3), size)]
-    with tempfile.TemporaryDirectory(dir="/dev/shm" if os.path.isdir("/dev/shm") else None) as folder, open(f"{ROOT}/examples/{SCRIPT}", "rb") as script:
+    sets = [
+        it
+        for size in range(4 if words.closed else 1)
+        for it in itertools.combinations(range(3), size)
+    ]
+    with tempfile.TemporaryDirectory(
+        dir="/dev/shm" if os.path.isdir("/dev/shm") else None
+    ) as folder, open(f"{ROOT}/examples/{SCRIPT}", "rb") as script:
         for name, data in (("script", script.read()), ("plain.tfm", metric_file())):
             with open(f"{folder}/{name}", "wb") as it:
                 it.write(data)
@@ -134,7 +212,9 @@ def main():
         for task, closed in itertools.product(words.tasks or TASKS, sets):
             wrong += try_task(traced, task, closed, counts)
     for (task, name, status, is_whole), count in sorted(counts.items()):
-        print(f"{task}: {name} failed {count} times, status {status}{', as without' if is_whole else ''}")
+        print(
+            f"{task}: {name} failed {count} times, status {status}{', as without' if is_whole else ''}"
+        )
     print(f"{sum(counts.values())} runs, {len(wrong)} are wrong")
     sys.exit(bool(wrong))
 

@@ -25,7 +25,9 @@ from hostile_sessions import SIGNALS, check_session
 from models.dvi_reader import fonts_of_file, list_file
 from models.metric_reader import Refused, read_metrics, signed, widths_at
 
-ctypes.CDLL(None).prctl(36, 1, 0, 0, 0)  # a process that lost its parent becomes a child of this one
+ctypes.CDLL(None).prctl(
+    36, 1, 0, 0, 0
+)  # a process that lost its parent becomes a child of this one
 SECONDS, MEMORY, AGAIN, SHOWN = 60, 2 << 30, 50, 100
 # A shell's background, and nohup, ignore some of these.
 DEFAULT_SIGNALS = (signal.SIGPIPE, signal.SIGXFSZ, *(it for it in SIGNALS if it != signal.SIGKILL))
@@ -56,7 +58,9 @@ class Room:
     def fill(self, files):
         """Makes the folder anew. Beside the files it has a folder, a link to nothing, and a file that cannot be a folder."""
         for name in os.listdir("."):
-            shutil.rmtree(name) if os.path.isdir(name) and not os.path.islink(name) else os.remove(name)
+            shutil.rmtree(name) if os.path.isdir(name) and not os.path.islink(name) else os.remove(
+                name
+            )
         os.mkdir("folder")
         os.symlink("loop", "loop")
         for name, data in files.items():
@@ -83,7 +87,16 @@ class Room:
         The program gets the signals back that this process, or who started it, ignores."""
         given_path, output, errors = ("%s/%s" % (self.streams, it) for it in STREAMS)
         self.write(given_path, given)
-        actions = [(os.POSIX_SPAWN_OPEN, number, path, os.O_RDWR | os.O_CREAT | os.O_TRUNC * (number > 0), 0o600) for number, path in ((0, given_path), (1, output), (2, errors))]
+        actions = [
+            (
+                os.POSIX_SPAWN_OPEN,
+                number,
+                path,
+                os.O_RDWR | os.O_CREAT | os.O_TRUNC * (number > 0),
+                0o600,
+            )
+            for number, path in ((0, given_path), (1, output), (2, errors))
+        ]
         command = [self.program, *words]
         if small:
             command = ["/bin/sh", "-c", START, "sh", *command]
@@ -97,7 +110,9 @@ class Room:
     @staticmethod
     def spawn(command, actions):
         signal.setitimer(signal.ITIMER_REAL, SECONDS)
-        return os.posix_spawn(command[0], command, ENVIRONMENT, file_actions=actions, setsigdef=DEFAULT_SIGNALS)
+        return os.posix_spawn(
+            command[0], command, ENVIRONMENT, file_actions=actions, setsigdef=DEFAULT_SIGNALS
+        )
 
     def start(self, words, actions):
         """Starts the program, whose streams these actions set. `end` has to follow."""
@@ -108,7 +123,11 @@ class Room:
         """Waits for a process. Returns its status, its seconds and its memory."""
         _, status, used = os.wait4(started, 0)
         signal.setitimer(signal.ITIMER_REAL, 0)
-        memory = used.ru_maxrss if small or used.ru_maxrss > resource.getrusage(resource.RUSAGE_SELF).ru_maxrss else 0
+        memory = (
+            used.ru_maxrss
+            if small or used.ru_maxrss > resource.getrusage(resource.RUSAGE_SELF).ru_maxrss
+            else 0
+        )
         return os.waitstatus_to_exitcode(status), used.ru_utime + used.ru_stime, memory * 1024
 
     def made(self, out):
@@ -124,13 +143,33 @@ class Room:
 def check_made(room, made, end, pairs, before=None):
     """A file is whole, and as the end of the answers says; or it is as it was before the run; or the end was refused, and it is a beginning that `list` refuses."""
     if end and not end[0]:
-        require(made == before and not end[1], "no page was shipped, and there is a file of %d bytes", len(made or b""))
-    elif made != before or end and made and len(made) == end[1]:  # where a file is written over its like, both are the same
+        require(
+            made == before and not end[1],
+            "no page was shipped, and there is a file of %d bytes",
+            len(made or b""),
+        )
+    elif (
+        made != before or end and made and len(made) == end[1]
+    ):  # where a file is written over its like, both are the same
         room.write("made.dvi", made)
         listed = room.run(["list", "made.dvi", *pairs])
         came = check_reading(listed, len(made), b"list")
-        require(not end or came == "accepted" and len(made) == end[1] and check_listing(listed.output) == end[0], "the file of %d bytes is %s, and the end says %r", len(made), came, end)
-        require(end or came == "BadDvi", "the end was refused, and the file of %d bytes is %s", len(made), came)
+        require(
+            not end
+            or came == "accepted"
+            and len(made) == end[1]
+            and check_listing(listed.output) == end[0],
+            "the file of %d bytes is %s, and the end says %r",
+            len(made),
+            came,
+            end,
+        )
+        require(
+            end or came == "BadDvi",
+            "the end was refused, and the file of %d bytes is %s",
+            len(made),
+            came,
+        )
     else:
         require(not end, "there is no file, and the end says %r", end)
 
@@ -158,7 +197,11 @@ def check_words(room, it, ran):
     message, before = check_streams(ran), it.files.get(it.out)
     command = next((word for word in map(bytes, it.words) if word in COMMANDS), b"")
     if ran.status == 2 or message == b"cannot read":
-        require(not ran.output and ran.made == before, "words are refused, and %r is printed, or there is another file", ran.output[:100])
+        require(
+            not ran.output and ran.made == before,
+            "words are refused, and %r is printed, or there is another file",
+            ran.output[:100],
+        )
         return message.decode() or "words"
     if VERSION.fullmatch(ran.output):
         return "version"
@@ -170,9 +213,13 @@ def check_words(room, it, ran):
     require(message or ran.status == int(came != "accepted"), "%s with status %d", came, ran.status)
     if command and not message and it.out and not it.out.startswith("/dev") and end and end[0]:
         if before is not None:
-            room.write(it.out, before)  # where the file is in the place of a metric file, `list` reads that one again
+            room.write(
+                it.out, before
+            )  # where the file is in the place of a metric file, `list` reads that one again
         check_made(room, ran.made, end, [word for word in it.words if word != b"--"][2:], before)
-    require(not rest or not command and HEX.fullmatch(rest), "after the answers come %r", rest[:100])
+    require(
+        not rest or not command and HEX.fullmatch(rest), "after the answers come %r", rest[:100]
+    )
     return message.decode() or came
 
 
@@ -183,7 +230,12 @@ def check_file(it, ran):
     fonts = {name.removesuffix(".tfm").encode(): font for name, font in it.files.items()}
     text, accepted = fonts_of_file(data) if command == b"fonts" else list_file(data, fonts)
     if command != b"paint" or not accepted:
-        require(ran.output == text, "%r is printed, and the reader of the tests has %r", ran.output[:200], text[:200])
+        require(
+            ran.output == text,
+            "%r is printed, and the reader of the tests has %r",
+            ran.output[:200],
+            text[:200],
+        )
     return came
 
 
@@ -195,14 +247,26 @@ def check_metrics(it, ran):
         wanted = b"1: ok\n"
     except Refused as refusal:
         wanted = b"1: refused %s\n" % str(refusal).encode()
-    require(ran.output.startswith(wanted), "the metric file is answered %r, and the reader of the tests has %r", ran.output[:40], wanted)
+    require(
+        ran.output.startswith(wanted),
+        "the metric file is answered %r, and the reader of the tests has %r",
+        ran.output[:40],
+        wanted,
+    )
 
 
 def check_folder(room, it):
     """No file is left behind, and none is changed but that of the run."""
     left = sorted(set(os.listdir(".")) - {"folder", "loop", it.out, *it.files})
-    changed = sorted(name for name, data in it.files.items() if name != it.out and room.made(name) != data)
-    require(not left and not changed and not os.listdir("folder"), "files that are left behind: %r; that are changed: %r", left, changed)
+    changed = sorted(
+        name for name, data in it.files.items() if name != it.out and room.made(name) != data
+    )
+    require(
+        not left and not changed and not os.listdir("folder"),
+        "files that are left behind: %r; that are changed: %r",
+        left,
+        changed,
+    )
 
 
 def checked(room, it, number):
@@ -214,7 +278,9 @@ def checked(room, it, number):
     room.fill(it.files)
     ran = room.run(it.words, it.given, it.out, it.way == "large" or number // 20 % 10 == 0)
     check_folder(room, it)
-    if number % AGAIN == AGAIN - 1 - number // AGAIN % 20:  # over the time each of the twenty places of a kind
+    if (
+        number % AGAIN == AGAIN - 1 - number // AGAIN % 20
+    ):  # over the time each of the twenty places of a kind
         room.fill(it.files)
         require(ran.same(room.run(it.words, it.given, it.out)), "the second run differs")
     if b"OutOfMemory" in ran.output or b"18 Device" in ran.output and not ran.errors:
@@ -233,7 +299,9 @@ class Table:
     """What came of the inputs, by kind."""
 
     def __init__(self):
-        self.ways, self.statuses = collections.defaultdict(collections.Counter), collections.defaultdict(collections.Counter)
+        self.ways, self.statuses = collections.defaultdict(
+            collections.Counter
+        ), collections.defaultdict(collections.Counter)
         self.slowest, self.largest, self.wrong = {}, {}, []
 
     def add(self, number, it, ran, came):
@@ -244,18 +312,40 @@ class Table:
 
     def show(self):
         for kind, statuses in self.statuses.items():
-            print("%s: %d inputs, %s" % (kind, sum(statuses.values()), ", ".join("status %d: %d" % it for it in sorted(statuses.items()))))
+            print(
+                "%s: %d inputs, %s"
+                % (
+                    kind,
+                    sum(statuses.values()),
+                    ", ".join("status %d: %d" % it for it in sorted(statuses.items())),
+                )
+            )
             for _, way in sorted(it for it in self.ways if it[0] == kind):
                 found = self.ways[kind, way]
-                print("  %s %d: %s" % (way, sum(found.values()), ", ".join("%s %d" % it for it in found.most_common())))
-            print("  slowest %.2f s (input %d), greatest memory %.1f MB (input %d)" % (*self.slowest[kind], self.largest[kind][0] / 1e6, self.largest[kind][1]), flush=True)
+                print(
+                    "  %s %d: %s"
+                    % (
+                        way,
+                        sum(found.values()),
+                        ", ".join("%s %d" % it for it in found.most_common()),
+                    )
+                )
+            print(
+                "  slowest %.2f s (input %d), greatest memory %.1f MB (input %d)"
+                % (*self.slowest[kind], self.largest[kind][0] / 1e6, self.largest[kind][1]),
+                flush=True,
+            )
 
 
 def keep(folder, number, it):
     """Writes an input that went wrong."""
     path = "%s/%d" % (folder, number)
     os.makedirs(path, exist_ok=True)
-    for name, data in {**it.files, "STDIN": it.given, "WORDS": b"\n".join(os.fsencode(word) for word in it.words)}.items():
+    for name, data in {
+        **it.files,
+        "STDIN": it.given,
+        "WORDS": b"\n".join(os.fsencode(word) for word in it.words),
+    }.items():
         Room.write("%s/%s" % (path, name), data)
 
 
@@ -283,15 +373,25 @@ def try_all(room, good, numbers, kept):
 
 def main():
     parser = parser_of(__doc__, True)
-    parser.add_argument("--keep", metavar="FOLDER", help="where the inputs go that went wrong; with --count 1 also one that went right")
+    parser.add_argument(
+        "--keep",
+        metavar="FOLDER",
+        help="where the inputs go that went wrong; with --count 1 also one that went right",
+    )
     words = parser.parse_args()
     kept = words.keep and os.path.abspath(words.keep)
     resource.setrlimit(resource.RLIMIT_AS, (MEMORY, MEMORY))
     resource.setrlimit(resource.RLIMIT_CORE, (0, 0))
-    with tempfile.TemporaryDirectory(dir="/dev/shm" if os.path.isdir("/dev/shm") else None) as folder:
+    with tempfile.TemporaryDirectory(
+        dir="/dev/shm" if os.path.isdir("/dev/shm") else None
+    ) as folder:
         room = Room(os.path.abspath(words.boxglue), folder)
         good = Good(room.typeset)
-        print("%d good scripts, %d good files, %d metric files" % (len(good.scripts), len(good.files), len(good.metrics)), flush=True)
+        print(
+            "%d good scripts, %d good files, %d metric files"
+            % (len(good.scripts), len(good.files), len(good.metrics)),
+            flush=True,
+        )
         table = try_all(room, good, range(words.first, words.first + words.count), kept)
         if kept and words.count == 1:
             keep(kept, words.first, input_of(words.first, good))

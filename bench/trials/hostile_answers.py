@@ -7,9 +7,14 @@ import sys
 sys.path.insert(1, os.path.join(os.path.dirname(os.path.abspath(__file__)), "../../tests"))
 from common.outcome import Wrong  # noqa: E402 (after the path)
 
-NAMES = dict(enumerate("""
+NAMES = dict(
+    enumerate(
+        """
     OutOfMemory BadScript DimensionTooLarge NoFont BadTfm SlotTaken NoOpenList WrongMode WrongKind ListTooLong TooDeep InfiniteShrink TooManyBreaks
-    HugePage TooManyPages TooMuchShipped ListsOpen Device JobOver BadDvi VoidBox TooMuchSpecial""".split(), 1))
+    HugePage TooManyPages TooMuchShipped ListsOpen Device JobOver BadDvi VoidBox TooMuchSpecial""".split(),
+        1,
+    )
+)
 FONT_CAUSES = "TooShort|Counts|DesignSize|CharInfo|FixWord|LigKern"
 SCRIPT_CAUSES = "Byte|Word|Missing|Extra|Number|Dimension|Name"
 FILE_CAUSES = "Trailer|Version|Opcode|Pointer|Count|Preamble|Truncated|Stack|Glyph|Range|Font"
@@ -23,7 +28,13 @@ ANSWERED = """
     font ok 6 4 5 3 1; use ok 4; hbox vbox vtop ok 7 11 1; par ok 7 8 11 1; end ended 7 3 11 10 12 13 1; text char shaped 7 8 4 10 1
     rule ok 7 8 10 1; kern glue penalty ok 7 10 1; special ok 7 22 10 1; box copy put 7 3 10 1; unhbox unhcopy unvbox unvcopy put 7 8 9 10 1
     lastbox ok 7; vsplit split 9 12 3 1; measure measured; void set count ok; ship shipped 21 15 16 22 14 1 18"""
-ANSWERS = {"ok": "ok", "ended": "%s|%s" % (PACKED, PARAGRAPH), "shaped": "added %s missing %s" % (N, N), "put": "added %s" % N, "split": SPLIT}
+ANSWERS = {
+    "ok": "ok",
+    "ended": "%s|%s" % (PACKED, PARAGRAPH),
+    "shaped": "added %s missing %s" % (N, N),
+    "put": "added %s" % N,
+    "split": SPLIT,
+}
 ANSWERS |= {"measured": "measured (?:void|[hv]box %s)" % SIZES, "shipped": "shipped %s" % N}
 
 
@@ -33,37 +44,67 @@ def commands():
         words = row.split()
         at = next((at for at, it in enumerate(words) if it in ANSWERS), 0)
         for command in words[:at]:
-            yield command, ANSWERS[words[at]], [*map(int, words[at + 1:])]
+            yield command, ANSWERS[words[at]], [*map(int, words[at + 1 :])]
 
 
 def refusal_pattern(numbers):
     """The refusals of these numbers, and JobOver, which a device that failed leads to."""
-    known = ["%d %s" % (it, NAMES[it]) if it != 5 else "5 BadTfm (?:%s)" % FONT_CAUSES for it in (*numbers, 19)]
+    known = [
+        "%d %s" % (it, NAMES[it]) if it != 5 else "5 BadTfm (?:%s)" % FONT_CAUSES
+        for it in (*numbers, 19)
+    ]
     return "refused (?:%s)" % "|".join(known)
 
 
-REPLIES = {word: re.compile("(?:%s|%s)" % (answer, refusal_pattern(numbers))) for word, answer, numbers in commands()}
+REPLIES = {
+    word: re.compile("(?:%s|%s)" % (answer, refusal_pattern(numbers)))
+    for word, answer, numbers in commands()
+}
 END = re.compile(r"end: (?:pages (\d+) bytes (\d+)|%s)" % refusal_pattern((17, 1, 18)))
 BAD_LINE = re.compile(r"refused 2 BadScript (\d+) (%s)" % SCRIPT_CAUSES)
 BAD_SCRIPT = re.compile(r"refused 2 BadScript (\d+) (?:%s)\n" % SCRIPT_CAUSES)
-READING_REFUSED = re.compile(r"refused (?:1 OutOfMemory|20 BadDvi (\d+) (?:%s)|4 NoFont|5 BadTfm (?:%s)|3 DimensionTooLarge)\n" % (FILE_CAUSES, FONT_CAUSES))
-MARK = re.compile(rb"glyph -?\d+ -?\d+ -?\d+ -?\d+|rule -?\d+ -?\d+ [1-9]\d* [1-9]\d*|special -?\d+ -?\d+ (?:[ -\[\]-~]|\\[0-9a-f][0-9a-f])*")
+READING_REFUSED = re.compile(
+    r"refused (?:1 OutOfMemory|20 BadDvi (\d+) (?:%s)|4 NoFont|5 BadTfm (?:%s)|3 DimensionTooLarge)\n"
+    % (FILE_CAUSES, FONT_CAUSES)
+)
+MARK = re.compile(
+    rb"glyph -?\d+ -?\d+ -?\d+ -?\d+|rule -?\d+ -?\d+ [1-9]\d* [1-9]\d*|special -?\d+ -?\d+ (?:[ -\[\]-~]|\\[0-9a-f][0-9a-f])*"
+)
 PAGE = re.compile(rb"page (\d+) counts(?: -?\d+){10}")
-FONTS = re.compile(rb"units [1-9]\d* [1-9]\d* [1-9]\d*\n(?:font -?\d+ (?:[!-\[\]-~]|\\(?:[0-9a-f]{2})?)+ [1-9]\d* -?\d+ [0-9a-f]{8}(?: (?:[!-\[\]-~]|\\[0-9a-f]{2})+)?\n)*")
+FONTS = re.compile(
+    rb"units [1-9]\d* [1-9]\d* [1-9]\d*\n(?:font -?\d+ (?:[!-\[\]-~]|\\(?:[0-9a-f]{2})?)+ [1-9]\d* -?\d+ [0-9a-f]{8}(?: (?:[!-\[\]-~]|\\[0-9a-f]{2})+)?\n)*"
+)
 HEX = re.compile(rb"(?:(?:[0-9a-f]{32}\n)*(?:(?:[0-9a-f]{2}){1,15}\n)?)")
-ONE_MESSAGE = re.compile(rb"boxglue: (?:(cannot (?:read|write)) |not NAME=TFM: |name given twice: |no such page)[^\0]*\n", re.S)
+ONE_MESSAGE = re.compile(
+    rb"boxglue: (?:(cannot (?:read|write)) |not NAME=TFM: |name given twice: |no such page)[^\0]*\n",
+    re.S,
+)
 HELP = re.compile(rb"(?:error: |[^\n]*\n\nUsage: boxglue)", re.S)
-VERSION = re.compile(rb"boxglue \d+\.\d+\.\d+ (?:\(rattle logic [0-9a-f]+\)|UNPROVED, with(?:out)? run-time checks)\n")
+VERSION = re.compile(
+    rb"boxglue \d+\.\d+\.\d+ (?:\(rattle logic [0-9a-f]+\)|UNPROVED, with(?:out)? run-time checks)\n"
+)
 
 
 class Ran:
     """The end of a run: its status, both outputs, the file that it wrote or None, its seconds of processor, and its greatest memory in bytes."""
 
     def __init__(self, status, output, errors, made=None, seconds=0.0, memory=0):
-        self.status, self.output, self.errors, self.made, self.seconds, self.memory = status, output, errors, made, seconds, memory
+        self.status, self.output, self.errors, self.made, self.seconds, self.memory = (
+            status,
+            output,
+            errors,
+            made,
+            seconds,
+            memory,
+        )
 
     def same(self, other):
-        return (self.status, self.output, self.errors, self.made) == (other.status, other.output, other.errors, other.made)
+        return (self.status, self.output, self.errors, self.made) == (
+            other.status,
+            other.output,
+            other.errors,
+            other.made,
+        )
 
 
 def require(holds, why, *words):
@@ -84,7 +125,9 @@ def command_lines(script):
 def check_replies(script, replies):
     """Each command has one reply, and it is one that this command has; a bad line of a session has its refusal."""
     commands = list(command_lines(script))
-    require(len(commands) == len(replies), "%d commands have %d replies", len(commands), len(replies))
+    require(
+        len(commands) == len(replies), "%d commands have %d replies", len(commands), len(replies)
+    )
     shipped = 0
     for (number, word), reply in zip(commands, replies):
         bad = BAD_LINE.fullmatch(reply)
@@ -92,7 +135,13 @@ def check_replies(script, replies):
             require(int(bad[1]) == number, "line %d is answered %r", number, reply)
             continue
         at, _, text = reply.partition(": ")
-        require(at == str(number) and word in REPLIES and REPLIES[word].fullmatch(text), "line %d, %s, is answered %r", number, word, reply)
+        require(
+            at == str(number) and word in REPLIES and REPLIES[word].fullmatch(text),
+            "line %d, %s, is answered %r",
+            number,
+            word,
+            reply,
+        )
         if text.startswith("shipped"):
             shipped += 1
             require(text == "shipped %d" % shipped, "page %d is answered %r", shipped, reply)
@@ -107,17 +156,34 @@ def check_run(script, output, is_session=False):
         return "bad", None, b""
     if output == b"refused 1 OutOfMemory\n":
         return "no memory", None, b""
-    head, found, rest = output.rpartition(b"\nend: ") if not output.startswith(b"end: ") else (b"", b"end: ", output[5:])
+    head, found, rest = (
+        output.rpartition(b"\nend: ")
+        if not output.startswith(b"end: ")
+        else (b"", b"end: ", output[5:])
+    )
     require(found, "there is no end: %r", output[-200:])
     end, _, rest = rest.partition(b"\n")
     said = END.fullmatch("end: " + end.decode("latin-1"))
     require(said, "the end is %r", end)
     replies = head.decode("latin-1").split("\n") if head else []
     shipped = check_replies(script, replies)
-    require(is_session or not any(map(BAD_LINE.fullmatch, replies)), "one line alone is bad: %r", output[:200])
+    require(
+        is_session or not any(map(BAD_LINE.fullmatch, replies)),
+        "one line alone is bad: %r",
+        output[:200],
+    )
     refused = b"refused " in output
-    require(not said[1] or int(said[1]) == shipped, "%d pages were shipped, and the end says %r", shipped, end)
-    return "refused" if refused else "accepted", (int(said[1]), int(said[2])) if said[1] else None, rest
+    require(
+        not said[1] or int(said[1]) == shipped,
+        "%d pages were shipped, and the end says %r",
+        shipped,
+        end,
+    )
+    return (
+        "refused" if refused else "accepted",
+        (int(said[1]), int(said[2])) if said[1] else None,
+        rest,
+    )
 
 
 def check_listing(output):
@@ -127,7 +193,9 @@ def check_listing(output):
         page = PAGE.fullmatch(line)
         if page:
             pages += 1
-        require(page and int(page[1]) == pages or pages and MARK.fullmatch(line), "%r is listed", line)
+        require(
+            page and int(page[1]) == pages or pages and MARK.fullmatch(line), "%r is listed", line
+        )
     require(not output or output.endswith(b"\n"), "the listing ends with %r", output[-20:])
     return pages
 
@@ -138,7 +206,15 @@ def check_bitmap(output):
     require(head, "%r is painted", output[:50])
     width, height = int(head[1]), int(head[2])
     row = b"".join(b"0" * min(70, width - at) + b"\n" for at in range(0, width, 70))
-    require(1 <= width <= 10000 and 1 <= height <= 10000 and output[head.end():].replace(b"1", b"0") == row * height, "a bitmap of %d by %d has %d bytes", width, height, len(output))
+    require(
+        1 <= width <= 10000
+        and 1 <= height <= 10000
+        and output[head.end() :].replace(b"1", b"0") == row * height,
+        "a bitmap of %d by %d has %d bytes",
+        width,
+        height,
+        len(output),
+    )
 
 
 def check_fonts(output):
@@ -153,11 +229,26 @@ def check_reading(ran, length, command):
     """Checks a `list`, a `paint` or a `fonts` of a file of this length, or of any. Returns what came of it."""
     refused = READING_REFUSED.fullmatch(ran.output.decode("latin-1"))
     if refused:
-        require(ran.status == 1 and not ran.errors, "refused with status %d, %r", ran.status, ran.errors[:200])
-        require(not refused[1] or length is None or int(refused[1]) <= length, "the place is %s of %s", refused[1], length)
+        require(
+            ran.status == 1 and not ran.errors,
+            "refused with status %d, %r",
+            ran.status,
+            ran.errors[:200],
+        )
+        require(
+            not refused[1] or length is None or int(refused[1]) <= length,
+            "the place is %s of %s",
+            refused[1],
+            length,
+        )
         return ran.output.split()[2].decode()
     if ran.errors == b"boxglue: no such page\n":
-        require(command == b"paint" and ran.status == 2 and not ran.output, "no such page, with status %d and %r", ran.status, ran.output[:200])
+        require(
+            command == b"paint" and ran.status == 2 and not ran.output,
+            "no such page, with status %d and %r",
+            ran.status,
+            ran.output[:200],
+        )
         return "no such page"
     require(ran.status == 0 and not ran.errors, "status %d, %r", ran.status, ran.errors[:200])
     CHECKS[command](ran.output)
@@ -171,7 +262,17 @@ def check_streams(ran):
     if ran.status == 0:
         require(not ran.errors, "status 0, and %r", ran.errors[:200])
     elif ran.status == 1:
-        require(message and message[1] or not ran.errors and b"refused " in ran.output, "status 1, %r, %r", ran.output[:200], ran.errors[:200])
+        require(
+            message and message[1] or not ran.errors and b"refused " in ran.output,
+            "status 1, %r, %r",
+            ran.output[:200],
+            ran.errors[:200],
+        )
     else:
-        require((HELP.match(ran.errors) or message and not message[1]) and not ran.output, "status 2, %r, %r", ran.output[:200], ran.errors[:200])
+        require(
+            (HELP.match(ran.errors) or message and not message[1]) and not ran.output,
+            "status 2, %r, %r",
+            ran.output[:200],
+            ran.errors[:200],
+        )
     return message[1] or b"words" if message else b""

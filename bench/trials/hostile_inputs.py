@@ -27,8 +27,12 @@ LONGEST_GOOD = 20_000
 
 def parser_of(about, count=False):
     """A parser of the words that the trials have in common."""
-    parser = argparse.ArgumentParser(description=about, formatter_class=argparse.RawDescriptionHelpFormatter)
-    parser.add_argument("--boxglue", default=os.environ.get("BOXGLUE", ROOT + "/crates/boxglue/out/boxglue"))
+    parser = argparse.ArgumentParser(
+        description=about, formatter_class=argparse.RawDescriptionHelpFormatter
+    )
+    parser.add_argument(
+        "--boxglue", default=os.environ.get("BOXGLUE", ROOT + "/crates/boxglue/out/boxglue")
+    )
     if count:
         parser.add_argument("--count", type=int, default=100_000, help="how many inputs")
         parser.add_argument("--first", type=int, default=0, help="the number of the first")
@@ -40,7 +44,16 @@ class Input:
     is how a session is written to."""
 
     def __init__(self, kind, way, words, given=b"", files=None, script=None, out=None, talk=None):
-        self.kind, self.way, self.words, self.given, self.files, self.script, self.out, self.talk = kind, way, words, given, files or {}, script, out, talk
+        (
+            self.kind,
+            self.way,
+            self.words,
+            self.given,
+            self.files,
+            self.script,
+            self.out,
+            self.talk,
+        ) = (kind, way, words, given, files or {}, script, out, talk)
 
 
 class Good:
@@ -53,7 +66,9 @@ class Good:
         self.fonts["plain"] = metric_file()
         self.metrics = list(self.fonts.values()) + [TINY]
         scripts = [self.read(path) for path in sorted(glob.glob(ROOT + "/examples/*.box"))]
-        scripts += [case_script(it.split(b"\n")) for it in re.split(rb"^case .*\n", text, flags=re.M)[1:]]
+        scripts += [
+            case_script(it.split(b"\n")) for it in re.split(rb"^case .*\n", text, flags=re.M)[1:]
+        ]
         self.scripts = [it for it in scripts if len(it) < LONGEST_GOOD]
         self.files = []
         for script in self.scripts:
@@ -73,13 +88,17 @@ class Good:
 
     def fonts_of(self, script):
         """The metric files that a script names."""
-        names = {it.decode() for it in re.findall(rb"^ *font +\d+ +([\w.-]{1,99})", script, flags=re.M)}
+        names = {
+            it.decode() for it in re.findall(rb"^ *font +\d+ +([\w.-]{1,99})", script, flags=re.M)
+        }
         return {name: self.fonts.get(name, self.fonts["plain"]) for name in sorted(names)}
 
 
 def font_words(fonts):
     """The words that give fonts. A name may begin as an option does."""
-    return ["--"] * any(it.startswith("-") for it in fonts) + ["%s=%s.tfm" % (name, name) for name in fonts]
+    return ["--"] * any(it.startswith("-") for it in fonts) + [
+        "%s=%s.tfm" % (name, name) for name in fonts
+    ]
 
 
 def font_paths(fonts):
@@ -87,6 +106,7 @@ def font_paths(fonts):
 
 
 # Scripts
+
 
 def any_script(chance, good):
     """A script, and the way it was made."""
@@ -100,7 +120,11 @@ def any_script(chance, good):
     elif way == "bytes changed":
         script = changed(chance, chance.pick(good.scripts), chance.pick(good.scripts))[1]
     else:
-        script = {"changed": lambda: changed_script(chance, good), "commands": lambda: random_script(chance), "large": lambda: large_script(chance)}[way]()
+        script = {
+            "changed": lambda: changed_script(chance, good),
+            "commands": lambda: random_script(chance),
+            "large": lambda: large_script(chance),
+        }[way]()
     return way, script
 
 
@@ -109,10 +133,19 @@ def script_input(chance, good):
     if chance.one_in(4):
         return Input("script", way, [], script, script=script)
     fonts = {"tiny": TINY, "plain": good.fonts["plain"], **good.fonts_of(script)}
-    return Input("script", way, ["typeset", "out.dvi", *font_words(fonts)], script, font_paths(fonts), script, "out.dvi")
+    return Input(
+        "script",
+        way,
+        ["typeset", "out.dvi", *font_words(fonts)],
+        script,
+        font_paths(fonts),
+        script,
+        "out.dvi",
+    )
 
 
 # Sessions
+
 
 def session_input(chance, good):
     """A session with a script; where all of it is written, its file may be one that cannot be made."""
@@ -120,26 +153,51 @@ def session_input(chance, good):
     talk = Talk(chance, script)
     out = chance.pick(ODD_OUTS) if talk.way in WHOLE and chance.one_in(15) else "out.dvi"
     fonts = {"tiny": TINY, "plain": good.fonts["plain"], **good.fonts_of(script)}
-    return Input("session", talk.way, ["session", out, *font_words(fonts)], script, font_paths(fonts), script, out, talk)
+    return Input(
+        "session",
+        talk.way,
+        ["session", out, *font_words(fonts)],
+        script,
+        font_paths(fonts),
+        script,
+        out,
+        talk,
+    )
 
 
 # DVI files
+
 
 def reading(chance, kind, way, data, fonts):
     """`list` of a file, `fonts` of it, or `paint` of a page of it."""
     words = ["list"]
     if chance.one_in(4):
-        words = ["paint", *[it for pair in zip(("--page", "--dpi", "--width", "--height"), sheet(chance)) for it in pair]]
+        words = [
+            "paint",
+            *[
+                it
+                for pair in zip(("--page", "--dpi", "--width", "--height"), sheet(chance))
+                for it in pair
+            ],
+        ]
     elif chance.one_in(5):
         return Input(kind, way, ["fonts", "f.dvi"], files={"f.dvi": data, **font_paths(fonts)})
-    return Input(kind, way, [*words, "f.dvi", *font_words(fonts)], files={"f.dvi": data, **font_paths(fonts)})
+    return Input(
+        kind, way, [*words, "f.dvi", *font_words(fonts)], files={"f.dvi": data, **font_paths(fonts)}
+    )
 
 
 def dvi_input(chance, good):
     if chance.one_in(4):
         return reading(chance, "dvi", "framed", framed(chance), {"tiny": TINY})
     if chance.one_in(20):
-        return reading(chance, "dvi", "bytes", chance.bytes(chance.below(400)) + b"\xdf" * chance.below(9), {"tiny": TINY})
+        return reading(
+            chance,
+            "dvi",
+            "bytes",
+            chance.bytes(chance.below(400)) + b"\xdf" * chance.below(9),
+            {"tiny": TINY},
+        )
     data, fonts = chance.pick(good.files)
     way, data = changed(chance, data, chance.pick(good.files)[0])
     return reading(chance, "dvi", way, data, fonts)
@@ -147,23 +205,51 @@ def dvi_input(chance, good):
 
 # Metric files
 
-USE_ALL = b"font 0 f\nfont 1 f at 134217727sp\nfont 2 f at 1sp\nuse 0\nhbox into 0\ntext abcdeabcde zz aab\n" + b"".join(b"char %d\n" % it for it in (0, 97, 98, 200, 201, 255)) + \
-    b"end\nship 0\nuse 2\nhbox into 0\ntext abcde edcba\nend\nship 0\n"
+USE_ALL = (
+    b"font 0 f\nfont 1 f at 134217727sp\nfont 2 f at 1sp\nuse 0\nhbox into 0\ntext abcdeabcde zz aab\n"
+    + b"".join(b"char %d\n" % it for it in (0, 97, 98, 200, 201, 255))
+    + b"end\nship 0\nuse 2\nhbox into 0\ntext abcde edcba\nend\nship 0\n"
+)
 
 
 def metrics_input(chance, good):
     way, data = changed_metrics(chance, chance.pick(good.metrics), chance.pick(good.metrics))
     if chance.one_in(3):
         glyphs = bytes([171]) + bytes(it for it in chance.bytes(chance.below(6)) if it < 128)
-        made = dvi_file([Page([glyphs], new_fonts=(Font(0, b"f", chance.pick((655360, 1, 2 ** 27 - 1, 2 ** 26))),))], 0, 0)
+        made = dvi_file(
+            [
+                Page(
+                    [glyphs],
+                    new_fonts=(Font(0, b"f", chance.pick((655360, 1, 2**27 - 1, 2**26))),),
+                )
+            ],
+            0,
+            0,
+        )
         return reading(chance, "metrics", way, made.data, {"f": data})
-    return Input("metrics", way, ["typeset", "out.dvi", "f=f.tfm"], USE_ALL, {"f.tfm": data}, USE_ALL, "out.dvi")
+    return Input(
+        "metrics",
+        way,
+        ["typeset", "out.dvi", "f=f.tfm"],
+        USE_ALL,
+        {"f.tfm": data},
+        USE_ALL,
+        "out.dvi",
+    )
 
 
 # Command lines
 
-ODD_PATHS = (*"absent absent/page.dvi . folder f.dvi script tiny.tfm f.dvi/x".split(), "", *"- /dev/null /dev/stdin out.dvi loop no".split())
-ODD_NUMBERS = "0 1 2 -1 72 +72 007 10000 10001 4294967295 4294967296 99999999999999999999 1.5 x 1e3 0x10".split() + ["", " 1", "9" * 5000]
+ODD_PATHS = (
+    *"absent absent/page.dvi . folder f.dvi script tiny.tfm f.dvi/x".split(),
+    "",
+    *"- /dev/null /dev/stdin out.dvi loop no".split(),
+)
+ODD_NUMBERS = "0 1 2 -1 72 +72 007 10000 10001 4294967295 4294967296 99999999999999999999 1.5 x 1e3 0x10".split() + [
+    "",
+    " 1",
+    "9" * 5000,
+]
 ODD_PAIRS = """
     tiny=tiny.tfm tiny=tiny.tfm a=tiny.tfm tiny=absent tiny=. tiny= =tiny.tfm = tiny tiny==
     tiny=f.dvi tiny=/dev/null tiny=tiny.tfm=x""".split()
@@ -174,13 +260,20 @@ def odd_word(chance):
     if way == 0:
         return bytes(1 + it % 255 for it in chance.bytes(chance.below(12)))
     if way == 1:
-        return chance.pick((b"a", b"=", b"n=", b"-", b"--page=")) * chance.pick((1, 100, 255, 256, 5000, 18000))
+        return chance.pick((b"a", b"=", b"n=", b"-", b"--page=")) * chance.pick(
+            (1, 100, 255, 256, 5000, 18000)
+        )
     if way == 2:
         return b"n" * chance.pick((254, 255, 256)) + b"=tiny.tfm"
     if way == 3:
-        return chance.pick("--help -h -V --version -- help list paint typeset session fonts --page -p --dpi= -hV --- --no lists TYPESET".split()).encode()
+        return chance.pick(
+            "--help -h -V --version -- help list paint typeset session fonts --page -p --dpi= -hV --- --no lists TYPESET".split()
+        ).encode()
     if way == 4:
-        return chance.pick((b"--page=", b"--dpi=", b"--width=", b"--height=")) + chance.pick(ODD_NUMBERS).encode()
+        return (
+            chance.pick((b"--page=", b"--dpi=", b"--width=", b"--height="))
+            + chance.pick(ODD_NUMBERS).encode()
+        )
     return chance.pick(ODD_PAIRS if way < 7 else ODD_PATHS).encode()
 
 
@@ -189,14 +282,33 @@ def words_input(chance, good):
     data, fonts = chance.pick(good.files)
     script = chance.pick(good.scripts) if chance.one_in(2) else random_script(chance)
     files = {"f.dvi": data, "script": script, "tiny.tfm": TINY, **font_paths(fonts)}
-    way = chance.pick(("typeset", "typeset", "session", "list", "list", "fonts", "paint", "paint", "any"))
+    way = chance.pick(
+        ("typeset", "typeset", "session", "list", "list", "fonts", "paint", "paint", "any")
+    )
     runs = way in ("typeset", "session")
-    pairs = [it.encode() for it in ([] if way == "fonts" else font_words(good.fonts_of(script) if runs else fonts))]
-    path = (chance.pick(ODD_PATHS) if chance.one_in(3) else "/dev/full" if chance.one_in(100) else "out.dvi" if runs else "f.dvi").encode()
+    pairs = [
+        it.encode()
+        for it in ([] if way == "fonts" else font_words(good.fonts_of(script) if runs else fonts))
+    ]
+    path = (
+        chance.pick(ODD_PATHS)
+        if chance.one_in(3)
+        else "/dev/full"
+        if chance.one_in(100)
+        else "out.dvi"
+        if runs
+        else "f.dvi"
+    ).encode()
     words = [way.encode(), path, *pairs]
     if way == "paint":
-        numbers = [chance.pick(ODD_NUMBERS) if chance.one_in(4) else chance.pick(("1", "2", "30")) for _ in range(4)]
-        options = [b"--%s=%s" % it for it in zip((b"page", b"dpi", b"width", b"height"), (it.encode() for it in numbers))]
+        numbers = [
+            chance.pick(ODD_NUMBERS) if chance.one_in(4) else chance.pick(("1", "2", "30"))
+            for _ in range(4)
+        ]
+        options = [
+            b"--%s=%s" % it
+            for it in zip((b"page", b"dpi", b"width", b"height"), (it.encode() for it in numbers))
+        ]
         words[1:1] = options
     if way == "any":
         words = []
@@ -208,11 +320,21 @@ def words_input(chance, good):
         words += [b"n%d=tiny.tfm" % at for at in range(chance.below(2000))]
     if runs:
         files.update({it + ".tfm": font for it, font in good.fonts_of(script).items()})
-    out = next((os.fsdecode(it) for it in words[1:] if it != b"--"), None) if words[:1] in ([b"typeset"], [b"session"]) else None
+    out = (
+        next((os.fsdecode(it) for it in words[1:] if it != b"--"), None)
+        if words[:1] in ([b"typeset"], [b"session"])
+        else None
+    )
     return Input("words", way, words, script, files, script, out)
 
 
-MAKERS = {"script": script_input, "session": session_input, "dvi": dvi_input, "metrics": metrics_input, "words": words_input}
+MAKERS = {
+    "script": script_input,
+    "session": session_input,
+    "dvi": dvi_input,
+    "metrics": metrics_input,
+    "words": words_input,
+}
 
 
 def input_of(number, good):

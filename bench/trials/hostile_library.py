@@ -29,26 +29,50 @@ def called(room, words):
     """What the caller prints: the status, and both outputs."""
     ran = room.run(words)
     line, _, rest = ran.output.partition(b"\n")
-    require(ran.status == 0 and re.fullmatch(rb"\d+ \d+ \d+", line), "%s: status %d, %r", words[0], ran.status, ran.errors[-500:])
+    require(
+        ran.status == 0 and re.fullmatch(rb"\d+ \d+ \d+", line),
+        "%s: status %d, %r",
+        words[0],
+        ran.status,
+        ran.errors[-500:],
+    )
     status, first, second = map(int, line.split())
-    return status, rest[:first], rest[first:first + second]
+    return status, rest[:first], rest[first : first + second]
 
 
 def check_bad_lines(program, library, it, words):
     """A script with bad lines, line by line on a job. A bad line does not count, so that the lines after it have the numbers that they have without it."""
     wanted, count, answers = Wanted(program, it, it.script, "out.dvi"), 0, []
     lines = it.script.split(b"\n")
-    text = b"".join(line + b"\n" * (number < len(lines)) for number, line in enumerate(lines, 1) if number not in wanted.bad)
+    text = b"".join(
+        line + b"\n" * (number < len(lines))
+        for number, line in enumerate(lines, 1)
+        if number not in wanted.bad
+    )
     program.fill(it.files)
     ran = program.run(["typeset", "out.dvi", *it.words[2:]], text, "out.dvi")
-    replies = {int(line.partition(b":")[0]): line for line in ran.output.splitlines(keepends=True) if line[:1].isdigit()}
+    replies = {
+        int(line.partition(b":")[0]): line
+        for line in ran.output.splitlines(keepends=True)
+        if line[:1].isdigit()
+    }
     for number in range(1, len(lines) + 1):
         bad = wanted.bad.get(number)
         count += not bad
-        answers.append(re.sub(rb" \d+ ", b" %d " % (count + 1), bad.replace(b" 2 ", b" # ", 1)).replace(b" # ", b" 2 ") if bad else replies.get(count, b""))
+        answers.append(
+            re.sub(rb" \d+ ", b" %d " % (count + 1), bad.replace(b" 2 ", b" # ", 1)).replace(
+                b" # ", b" 2 "
+            )
+            if bad
+            else replies.get(count, b"")
+        )
     wanted = 1, b"".join([*answers, wanted.end]), ran.made or b""
     library.write("script", it.script)
-    require(called(library, ["job", "1", "script", *words]) == wanted, "job: bad lines are not as the program has them, which ends with %r", wanted[1][-100:])
+    require(
+        called(library, ["job", "1", "script", *words]) == wanted,
+        "job: bad lines are not as the program has them, which ends with %r",
+        wanted[1][-100:],
+    )
 
 
 def check_script(program, library, it):
@@ -58,12 +82,22 @@ def check_script(program, library, it):
     wanted = program.run(["typeset", "out.dvi", *it.words[2:]], it.script, "out.dvi")
     wanted = wanted.status, wanted.output, wanted.made or b""
     for call in ("run", "run_replies"):
-        require(called(library, [call, "script", *words]) == wanted, "%s: not as the program, which ends with %r", call, wanted[1][-100:])
+        require(
+            called(library, [call, "script", *words]) == wanted,
+            "%s: not as the program, which ends with %r",
+            call,
+            wanted[1][-100:],
+        )
     if wanted[1].startswith(b"refused 2 BadScript"):
         check_bad_lines(program, library, it, words)
         return "bad"
     for call, most in (("job", 1), ("job", 7), ("job_replies", 3)):
-        require(called(library, [call, str(most), "script", *words]) == wanted, "%s: not as the program, which ends with %r", call, wanted[1][-100:])
+        require(
+            called(library, [call, str(most), "script", *words]) == wanted,
+            "%s: not as the program, which ends with %r",
+            call,
+            wanted[1][-100:],
+        )
     return ("accepted", "refused")[wanted[0]]
 
 
@@ -72,31 +106,60 @@ def check_fonts(library, data):
     try:
         rows = [(number, *parts_of(fields)) for number, fields in definitions_after(data)]
         wanted = b"0 %d %d\n" % (len(rows), sum(len(name) for _, _, name, *_ in rows))
-        wanted += b"".join(b"%d %d %s %d %d\n" % (number, size, name.split(b"\0")[0], design, int.from_bytes(check_sum, "big")) for number, _, name, size, design, check_sum in rows)
+        wanted += b"".join(
+            b"%d %d %s %d %d\n"
+            % (number, size, name.split(b"\0")[0], design, int.from_bytes(check_sum, "big"))
+            for number, _, name, size, design, check_sum in rows
+        )
     except Refused as refusal:
         line = b"refused %s\n" % str(refusal).encode()
         wanted = b"1 0 %d\n%s" % (len(line), line)
     ran = library.run(["fonts", "f.dvi"])
-    require(ran.status == 0 and ran.output == wanted, "fonts: status %d, %r, and not %r", ran.status, ran.output[:200] or ran.errors[-500:], wanted[:200])
+    require(
+        ran.status == 0 and ran.output == wanted,
+        "fonts: status %d, %r, and not %r",
+        ran.status,
+        ran.output[:200] or ran.errors[-500:],
+        wanted[:200],
+    )
 
 
 def check_marks(library, words, wanted):
     """The marks of a DVI file, which are those of its listing."""
     ran = library.run(["marks", "f.dvi", *words])
     line, _, listing = ran.output.partition(b"\n")
-    require(ran.status == 0 and re.fullmatch(rb"%d \d+ \d+ \d+" % wanted.status, line), "marks: status %d, %r", ran.status, line or ran.errors[-500:])
+    require(
+        ran.status == 0 and re.fullmatch(rb"%d \d+ \d+ \d+" % wanted.status, line),
+        "marks: status %d, %r",
+        ran.status,
+        line or ran.errors[-500:],
+    )
     require(WIDTH.sub(rb"\1", listing) == wanted.output, "marks: not as the listing of the program")
 
 
 def check_file(program, library, it):
     """A DVI file: listed, painted, and asked for its marks and its fonts."""
-    words = [word for word in it.words[it.words.index("f.dvi") + 1:] if word != "--"]
+    words = [word for word in it.words[it.words.index("f.dvi") + 1 :] if word != "--"]
     sheet = ["1", "72", "40", "30"]
     for call, numbers in (("list", []), ("paint", sheet)):
-        options = [word for pair in zip(("--page", "--dpi", "--width", "--height"), numbers) for word in pair]
-        wanted = program.run([call, *options, *it.words[it.words.index("f.dvi"):]])
+        options = [
+            word
+            for pair in zip(("--page", "--dpi", "--width", "--height"), numbers)
+            for word in pair
+        ]
+        wanted = program.run([call, *options, *it.words[it.words.index("f.dvi") :]])
         status, text, rest = called(library, [call, *numbers, "f.dvi", *words])
-        require((status, text, rest) == ((NO_SUCH_PAGE, b"", b"") if wanted.status == 2 else (wanted.status, wanted.output, b"")), "%s: status %d, not as the program", call, status)
+        require(
+            (status, text, rest)
+            == (
+                (NO_SUCH_PAGE, b"", b"")
+                if wanted.status == 2
+                else (wanted.status, wanted.output, b"")
+            ),
+            "%s: status %d, not as the program",
+            call,
+            status,
+        )
         if call == "list":
             check_marks(library, words, wanted)
     check_fonts(library, it.files["f.dvi"])
@@ -107,9 +170,13 @@ def main():
     parser = parser_of(__doc__, True)
     parser.add_argument("--archive", required=True)
     words = parser.parse_args()
-    caller, program = build_calls(ROOT, os.path.abspath(words.archive)), os.path.abspath(words.boxglue)
+    caller, program = build_calls(ROOT, os.path.abspath(words.archive)), os.path.abspath(
+        words.boxglue
+    )
     came, wrong, start = collections.defaultdict(collections.Counter), 0, time.monotonic()
-    with tempfile.TemporaryDirectory(dir="/dev/shm" if os.path.isdir("/dev/shm") else None) as folder:
+    with tempfile.TemporaryDirectory(
+        dir="/dev/shm" if os.path.isdir("/dev/shm") else None
+    ) as folder:
         room = Room(program, folder)
         good, library = Good(room.typeset), room.other(caller)
         for number in range(words.first, words.first + words.count):
@@ -118,7 +185,11 @@ def main():
                 continue
             room.fill(it.files)
             try:
-                came[it.kind][check_file(room, library, it) if it.script is None else check_script(room, library, it)] += 1
+                came[it.kind][
+                    check_file(room, library, it)
+                    if it.script is None
+                    else check_script(room, library, it)
+                ] += 1
             except Wrong as why:
                 wrong += 1
                 print("input %d, %s, %s: %s" % (number, it.kind, it.way, why), flush=True)

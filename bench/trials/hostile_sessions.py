@@ -32,10 +32,12 @@ class Talk:
 
     def __init__(self, chance, text):
         self.way = chance.pick(WAYS)
-        if self.way == "after the end" and (len(text) > TERMINAL or not re.fullmatch(rb"[ -~\n]*", text)):
+        if self.way == "after the end" and (
+            len(text) > TERMINAL or not re.fullmatch(rb"[ -~\n]*", text)
+        ):
             self.way = "pieces"
         if self.way == "early end":
-            text = text[:chance.below(len(text) + 1)]
+            text = text[: chance.below(len(text) + 1)]
         self.pieces = line_pieces(chance, text) if self.way == "lines" else any_pieces(chance, text)
         self.pauses = [chance.below(3) + 1 if chance.one_in(8) else 0 for _ in self.pieces]
         self.stops, self.small = chance.one_in(6), chance.one_in(3)
@@ -47,23 +49,31 @@ class Talk:
     def lines(self, count):
         """The whole lines of the first pieces."""
         text = b"".join(self.pieces[:count])
-        return text[:text.rfind(b"\n") + 1]
+        return text[: text.rfind(b"\n") + 1]
 
 
 def any_pieces(chance, text):
     """A text in pieces, which are cut anywhere, some at a line feed or one byte beside it."""
     count = chance.pick((1, 2, 3, 7, 30, len(text) if len(text) <= 300 else 100))
     feeds = [at for at, byte in enumerate(text) if byte == 10] or [0]
-    places = {chance.pick(feeds) + chance.below(3) if chance.one_in(3) else chance.below(len(text) + 1) for _ in range(count - 1)}
+    places = {
+        chance.pick(feeds) + chance.below(3) if chance.one_in(3) else chance.below(len(text) + 1)
+        for _ in range(count - 1)
+    }
     places = [0, *sorted(it for it in places if 0 < it < len(text)), len(text)]
     return [text[first:last] for first, last in zip(places, places[1:])]
 
 
 def line_pieces(chance, text):
     """A text in pieces of whole lines, so many that they can be waited for one by one."""
-    lines = text.splitlines(keepends=True) if b"\r" not in text else [it + b"\n" for it in text.split(b"\n")[:-1]] + [it for it in text.split(b"\n")[-1:] if it]
+    lines = (
+        text.splitlines(keepends=True)
+        if b"\r" not in text
+        else [it + b"\n" for it in text.split(b"\n")[:-1]]
+        + [it for it in text.split(b"\n")[-1:] if it]
+    )
     most = 1 + chance.below(3) + len(lines) // MOST_WAITS
-    return [b"".join(lines[at:at + most]) for at in range(0, len(lines), most)]
+    return [b"".join(lines[at : at + most]) for at in range(0, len(lines), most)]
 
 
 class Wanted:
@@ -100,7 +110,11 @@ class Wanted:
     def pages(self):
         """The bytes of the pages: the file without what follows them, where the end was accepted."""
         made = self.made or b""
-        return made[:int.from_bytes(made.rstrip(b"\xdf")[-5:-1], "big")] if made and b"refused" not in self.end else made
+        return (
+            made[: int.from_bytes(made.rstrip(b"\xdf")[-5:-1], "big")]
+            if made and b"refused" not in self.end
+            else made
+        )
 
 
 class Partner:
@@ -131,7 +145,7 @@ class Partner:
     def write_some(self, data):
         """Writes what there is room for. Returns the rest; nothing where nobody reads it."""
         try:
-            return data[os.write(self.writes, data[:1 << 16]):]
+            return data[os.write(self.writes, data[: 1 << 16]) :]
         except BlockingIOError:
             return data
         except OSError:
@@ -195,17 +209,29 @@ def connection():
         ours = socket.create_connection(server.getsockname())
         its, _ = server.accept()
     ours.setblocking(False)
-    ours.setsockopt(socket.SOL_SOCKET, socket.SO_LINGER, struct.pack("ii", 1, 0))  # a close resets it
+    ours.setsockopt(
+        socket.SOL_SOCKET, socket.SO_LINGER, struct.pack("ii", 1, 0)
+    )  # a close resets it
     return its.detach(), ours.detach()
 
 
 def start(room, it, talk):
     """Starts a session. Returns its other side."""
-    given, writes = terminal() if talk.way == "after the end" else connection() if talk.way == "reset" else pipe(talk, 0)
-    said, reads = (os.open("/dev/full", os.O_WRONLY), None) if talk.way == "full output" else pipe(talk, 1)
+    given, writes = (
+        terminal()
+        if talk.way == "after the end"
+        else connection()
+        if talk.way == "reset"
+        else pipe(talk, 0)
+    )
+    said, reads = (
+        (os.open("/dev/full", os.O_WRONLY), None) if talk.way == "full output" else pipe(talk, 1)
+    )
     errors = os.open(room.streams + "/errors", os.O_RDWR | os.O_CREAT | os.O_TRUNC, 0o600)
     partner = Partner(writes, reads)
-    actions = [(os.POSIX_SPAWN_DUP2, its, number) for number, its in enumerate((given, said, errors))]
+    actions = [
+        (os.POSIX_SPAWN_DUP2, its, number) for number, its in enumerate((given, said, errors))
+    ]
     if talk.way == "closed streams":
         actions += [(os.POSIX_SPAWN_CLOSE, number) for number in talk.closed]
     partner.pid = room.start(it.words, actions)
@@ -233,7 +259,13 @@ def hear_lines(partner, talk, wanted, count):
     """Hears the answers to the whole lines of so many pieces, and no more."""
     first = wanted.first(talk.lines(count))
     partner.hear(len(first))
-    require(partner.heard == first, "after %d pieces it answers %r, and not %r", count, partner.heard[-200:], first[-200:])
+    require(
+        partner.heard == first,
+        "after %d pieces it answers %r, and not %r",
+        count,
+        partner.heard[-200:],
+        first[-200:],
+    )
 
 
 def end_of(partner, talk, wanted):
@@ -244,13 +276,13 @@ def end_of(partner, talk, wanted):
     if talk.way in ("signal", "reset"):
         partner.hear(answered)
     if talk.way == "signal":
-        for piece in talk.pieces[talk.at:][:2]:
+        for piece in talk.pieces[talk.at :][:2]:
             partner.write(piece)
         os.kill(partner.pid, talk.number)
     if talk.way == "closed reader":
         partner.hear(min(talk.at, answered))
         partner.close("reads")
-        for piece in talk.pieces[talk.at:]:
+        for piece in talk.pieces[talk.at :]:
             partner.write(piece)
     partner.measure()
     if talk.way != "after the end":
@@ -270,14 +302,37 @@ def talk_with(room, it):
     finally:
         partner.close("reads", "writes")
         status, seconds, _ = room.end(partner.pid)
-    return Ran(status, partner.heard, room.read(room.streams + "/errors"), room.made(it.out), seconds, partner.memory), wanted
+    return (
+        Ran(
+            status,
+            partner.heard,
+            room.read(room.streams + "/errors"),
+            room.made(it.out),
+            seconds,
+            partner.memory,
+        ),
+        wanted,
+    )
 
 
 def require_parts(ran, status, output, errors, made):
-    require(ran.status == status, "the status is %d and not %d, %r", ran.status, status, ran.errors[-200:])
+    require(
+        ran.status == status,
+        "the status is %d and not %d, %r",
+        ran.status,
+        status,
+        ran.errors[-200:],
+    )
     require(ran.output == output, "the answers are %r and not %r", ran.output[-200:], output[-200:])
-    require(ran.errors == errors, "standard error is %r and not %r", ran.errors[-200:], errors[-200:])
-    require(ran.made == made, "the file has %s bytes and not %s", ran.made and len(ran.made), made and len(made))
+    require(
+        ran.errors == errors, "standard error is %r and not %r", ran.errors[-200:], errors[-200:]
+    )
+    require(
+        ran.made == made,
+        "the file has %s bytes and not %s",
+        ran.made and len(ran.made),
+        made and len(made),
+    )
 
 
 def check_signal(room, it, ran, wanted):
@@ -285,9 +340,21 @@ def check_signal(room, it, ran, wanted):
     talk = it.talk
     answered = wanted.first(talk.lines(talk.at))
     require(ran.status == -talk.number, "the status is %d after signal %d", ran.status, talk.number)
-    require(ran.output.startswith(answered) and wanted.whole().startswith(ran.output), "after a signal the answers are %r", ran.output[-200:])
-    least, most = (Wanted(room, it, text).pages() for text in (talk.lines(talk.at), talk.lines(talk.at + 2)))
-    require((ran.made or b"").startswith(least) and most.startswith(ran.made or b""), "after a signal the file has %d bytes, and not %d to %d", len(ran.made or b""), len(least), len(most))
+    require(
+        ran.output.startswith(answered) and wanted.whole().startswith(ran.output),
+        "after a signal the answers are %r",
+        ran.output[-200:],
+    )
+    least, most = (
+        Wanted(room, it, text).pages() for text in (talk.lines(talk.at), talk.lines(talk.at + 2))
+    )
+    require(
+        (ran.made or b"").startswith(least) and most.startswith(ran.made or b""),
+        "after a signal the file has %d bytes, and not %d to %d",
+        len(ran.made or b""),
+        len(least),
+        len(most),
+    )
 
 
 def check_closed(it, ran, wanted):
@@ -295,7 +362,13 @@ def check_closed(it, ran, wanted):
     closed = it.talk.closed
     errors = b"" if 2 in closed else UNREAD if 0 in closed else wanted.errors
     output = b"" if 0 in closed or 1 in closed else wanted.whole()
-    require_parts(ran, 1 if 0 in closed or 1 in closed else wanted.status, output, errors, None if 0 in closed else wanted.made)
+    require_parts(
+        ran,
+        1 if 0 in closed or 1 in closed else wanted.status,
+        output,
+        errors,
+        None if 0 in closed else wanted.made,
+    )
 
 
 def check_session(room, it):
@@ -310,8 +383,10 @@ def check_session(room, it):
         check_signal(room, it, ran, wanted)
     elif way == "reset":
         front = Wanted(room, it, it.talk.lines(it.talk.at))
-        require_parts(ran, 1, front.whole()[:-len(front.end)], UNREAD, front.pages() or None)
+        require_parts(ran, 1, front.whole()[: -len(front.end)], UNREAD, front.pages() or None)
     else:
-        require(wanted.whole().startswith(ran.output), "a reader that left heard %r", ran.output[-200:])
+        require(
+            wanted.whole().startswith(ran.output), "a reader that left heard %r", ran.output[-200:]
+        )
         require_parts(ran, 1, ran.output, wanted.errors, wanted.made)
     return ran, wanted.came()

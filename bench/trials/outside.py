@@ -34,6 +34,7 @@ EXAMPLES = os.path.join(HERE, "../../examples")
 
 # Files of TeX.
 
+
 def documents(work):
     """DVI files by tex and latex, those of TeX Live, and copies by dvicopy, which has the fonts of virtual ones."""
     made, missing = [], []
@@ -45,7 +46,11 @@ def documents(work):
             made.append("document_%s.dvi" % name)
         else:
             missing.append(name)
-    for path in {os.path.realpath(path) for tree in TREES for path in glob.glob(tree + "/**/*.dvi", recursive=True)}:
+    for path in {
+        os.path.realpath(path)
+        for tree in TREES
+        for path in glob.glob(tree + "/**/*.dvi", recursive=True)
+    }:
         shutil.copy(path, work.path("live_" + os.path.basename(path)))
         made.append("live_" + os.path.basename(path))
     for name in list(made):
@@ -64,19 +69,33 @@ def documents(work):
             notes.append("%s: %s" % (name, ours.complaints[0]))
         else:
             tally.pages(name, ours.pages, theirs.pages)
-            notes, defined = notes + other_fonts(work, name, theirs, fonts), defined + len(theirs.fonts)
-    line = "documents: %d files with %d fonts, not accepted, warned of, or with other units or fonts %d; %s" % (len(made) - len(without_metrics), defined, len(notes), tally.shown())
-    causes = Counter({"documents that are not made here: " + ", ".join(missing): len(missing), "files with fonts whose metric files are not here: " + ", ".join(without_metrics): len(without_metrics)})
+            notes, defined = notes + other_fonts(work, name, theirs, fonts), defined + len(
+                theirs.fonts
+            )
+    line = (
+        "documents: %d files with %d fonts, not accepted, warned of, or with other units or fonts %d; %s"
+        % (len(made) - len(without_metrics), defined, len(notes), tally.shown())
+    )
+    causes = Counter(
+        {
+            "documents that are not made here: " + ", ".join(missing): len(missing),
+            "files with fonts whose metric files are not here: "
+            + ", ".join(without_metrics): len(without_metrics),
+        }
+    )
     work.show(line, +causes, notes + tally.notes)
 
 
 # Other readers.
 
+
 def example_scripts():
     """The scripts of examples/, all in a font that has shapes, and a book of 280 pages."""
     for path in sorted(glob.glob(EXAMPLES + "/*.box")):
         with open(path) as file:
-            yield os.path.basename(path)[:-4], re.sub(r"(?m)^(font .*)plain", r"\1cmr10", file.read())
+            yield os.path.basename(path)[:-4], re.sub(
+                r"(?m)^(font .*)plain", r"\1cmr10", file.read()
+            )
     yield "book", inputs.book(200)[0]
 
 
@@ -91,16 +110,28 @@ def readers(work):
         total += count
         read = by_dvitype(file + ".dvi", work.folder)
         runs["dvitype"] += 1
-        notes += ["%s: dvitype: %s" % (name, it) for it in read.complaints + (["%d pages" % len(read.pages)] if len(read.pages) != count else [])]
-        for words in (["dvips", "-o", file + ".ps", file + ".dvi"], ["gs", "-q", "-dBATCH", "-dNOPAUSE", "-sDEVICE=nullpage", file + ".ps"],
-                ["dvipdfmx", "-o", file + ".pdf", file + ".dvi"], ["pdftoppm", "-r", "30", "-gray", file + ".pdf", file],
-                [*"dvipng -D 110 -T tight -o".split(), file + "-%d.png", file + ".dvi"]):
+        notes += [
+            "%s: dvitype: %s" % (name, it)
+            for it in read.complaints
+            + (["%d pages" % len(read.pages)] if len(read.pages) != count else [])
+        ]
+        for words in (
+            ["dvips", "-o", file + ".ps", file + ".dvi"],
+            ["gs", "-q", "-dBATCH", "-dNOPAUSE", "-sDEVICE=nullpage", file + ".ps"],
+            ["dvipdfmx", "-o", file + ".pdf", file + ".dvi"],
+            ["pdftoppm", "-r", "30", "-gray", file + ".pdf", file],
+            [*"dvipng -D 110 -T tight -o".split(), file + "-%d.png", file + ".dvi"],
+        ):
             status, text = work.run(*words)
             runs[words[0]] += 1
             if words[0] in ("gs", "pdftoppm"):
                 said = [text] if text.strip() else []
             else:
-                said = re.findall(r"(?i)(?:%s)?[^\n]*(?:warning|error|missing|cannot|can't|unimplemented)[^\n]*" % words[0], text)
+                said = re.findall(
+                    r"(?i)(?:%s)?[^\n]*(?:warning|error|missing|cannot|can't|unimplemented)[^\n]*"
+                    % words[0],
+                    text,
+                )
             if words[0] == "dvipng" and said and all("special{html:" in it for it in said):
                 causes["files with links, of which dvipng warns"] += 1
             elif status or said:
@@ -109,7 +140,11 @@ def readers(work):
             found = len(glob.glob(work.path(pattern)))
             if found != count:
                 notes.append("%s: %s made %d of %d pages" % (name, made, found, count))
-    line = "readers: %s; %d pages; warnings, errors or other numbers of pages: %d" % (", ".join("%s of %d files" % it for it in runs.items()), total, len(notes))
+    line = "readers: %s; %d pages; warnings, errors or other numbers of pages: %d" % (
+        ", ".join("%s of %d files" % it for it in runs.items()),
+        total,
+        len(notes),
+    )
     work.show(line, causes, notes)
 
 
@@ -123,7 +158,9 @@ def paint(work):
     for dots in DOTS:
         side = 7 * dots
         ours = work.bitmap("paint.ours.dvi", 1, dots, side)
-        work.run("dvipng", "-q", "-D", str(dots), "-T", "7in,7in", "-o", "paint.png", "paint.ours.dvi")
+        work.run(
+            "dvipng", "-q", "-D", str(dots), "-T", "7in,7in", "-o", "paint.png", "paint.ours.dvi"
+        )
         width, theirs = black(work.path("paint.png"))
         if (width, len(theirs)) != (side, side):
             notes.append("%d dpi: dvipng's page is %d by %d" % (dots, width, len(theirs)))
@@ -135,7 +172,10 @@ def paint(work):
         if drawn(dvipng_rules("paint.ours.dvi", work.folder, dots)[0], side) != theirs:
             notes.append("%d dpi: dvipng rounds otherwise" % dots)
         differ = black_pixels(map(int.__xor__, ours, theirs))
-        parts.append("%d of %d at %d dpi (black %d and %d)" % (differ, side * side, dots, black_pixels(ours), black_pixels(theirs)))
+        parts.append(
+            "%d of %d at %d dpi (black %d and %d)"
+            % (differ, side * side, dots, black_pixels(ours), black_pixels(theirs))
+        )
     work.show("paint: 1600 rules, pixels that differ from dvipng's: " + ", ".join(parts), {}, notes)
 
 
@@ -160,12 +200,29 @@ PARTS = {
 
 
 def main():
-    parser = argparse.ArgumentParser(description=__doc__, formatter_class=argparse.RawDescriptionHelpFormatter)
-    parser.add_argument("--boxglue", default=os.environ.get("BOXGLUE", os.path.join(HERE, "../../crates/boxglue/out/boxglue")))
-    parser.add_argument("--by", choices=("program", "session"), default="program", metavar="WAY", help="program or session")
-    parser.add_argument("--folder", help="a folder for all inputs and outputs, else one that is removed")
-    parser.add_argument("--notes", type=int, default=5, metavar="N", help="how many differences of a part are shown")
-    parser.add_argument("--seeds", type=int, metavar="N", help="of random work the first N seeds of a part alone")
+    parser = argparse.ArgumentParser(
+        description=__doc__, formatter_class=argparse.RawDescriptionHelpFormatter
+    )
+    parser.add_argument(
+        "--boxglue",
+        default=os.environ.get("BOXGLUE", os.path.join(HERE, "../../crates/boxglue/out/boxglue")),
+    )
+    parser.add_argument(
+        "--by",
+        choices=("program", "session"),
+        default="program",
+        metavar="WAY",
+        help="program or session",
+    )
+    parser.add_argument(
+        "--folder", help="a folder for all inputs and outputs, else one that is removed"
+    )
+    parser.add_argument(
+        "--notes", type=int, default=5, metavar="N", help="how many differences of a part are shown"
+    )
+    parser.add_argument(
+        "--seeds", type=int, metavar="N", help="of random work the first N seeds of a part alone"
+    )
     parser.add_argument("parts", nargs="*", metavar="PART", help=", ".join(PARTS))
     words = parser.parse_args()
     parts = words.parts or list(PARTS)
@@ -177,7 +234,9 @@ def main():
     with tempfile.TemporaryDirectory() as room:
         folder = os.path.abspath(words.folder or room)
         os.makedirs(folder, exist_ok=True)
-        work = (SessionWork if words.by == "session" else Work)(words.boxglue, folder, words.notes, words.seeds)
+        work = (SessionWork if words.by == "session" else Work)(
+            words.boxglue, folder, words.notes, words.seeds
+        )
         for part in parts:
             start, (compare, tools) = time.monotonic(), PARTS[part]
             lacks = [it for it in tools.split() if shutil.which(it) is None]

@@ -17,21 +17,35 @@ from outside_pages import DOWN, RIGHT, RULE, STEP, Tally, black, by_dvitype
 
 # Units and fonts.
 
+
 @functools.lru_cache(None)
 def header(path):
     """Design size in scaled points, rounded down, and check sum of a metric file, as tftopl says them."""
-    text = subprocess.run(["tftopl", path], stdin=subprocess.DEVNULL, stdout=subprocess.PIPE, stderr=subprocess.DEVNULL).stdout.decode("latin-1")
-    size, check_sum = re.search(r"\(DESIGNSIZE R ([\d.]+)\)", text), re.search(r"\(CHECKSUM O (\d+)\)", text)
+    text = subprocess.run(
+        ["tftopl", path],
+        stdin=subprocess.DEVNULL,
+        stdout=subprocess.PIPE,
+        stderr=subprocess.DEVNULL,
+    ).stdout.decode("latin-1")
+    size, check_sum = re.search(r"\(DESIGNSIZE R ([\d.]+)\)", text), re.search(
+        r"\(CHECKSUM O (\d+)\)", text
+    )
     # The text has as many digits as the number of 32 bits needs.
-    return round(Fraction(size[1]) * 2 ** 20) // 16, int(check_sum[1], 8)
+    return round(Fraction(size[1]) * 2**20) // 16, int(check_sum[1], 8)
 
 
 def other_fonts(work, name, theirs, fonts):
     """What `boxglue fonts` says of a file otherwise than dvitype and tftopl; the fonts are words NAME=TFM."""
     paths = {font: work.path(path) for font, _, path in (word.partition("=") for word in fonts)}
-    expected = [(number, font, size, *header(paths[font])) for number, (font, size) in theirs.fonts.items()]
+    expected = [
+        (number, font, size, *header(paths[font])) for number, (font, size) in theirs.fonts.items()
+    ]
     found = dict(zip(("units", "fonts"), work.units_and_fonts(name, fonts)))
-    return ["%s: %s %s and %s" % (name, what, found[what], said) for what, said in (("units", theirs.units), ("fonts", expected)) if found[what] != said]
+    return [
+        "%s: %s %s and %s" % (name, what, found[what], said)
+        for what, said in (("units", theirs.units), ("fonts", expected))
+        if found[what] != said
+    ]
 
 
 def fonts(work):
@@ -52,12 +66,15 @@ def fonts(work):
     notes = ["fonts: dvitype: %s" % it for it in ours.complaints]
     for name, reading in (("fonts.ours.dvi", ours), ("fonts.dvi", theirs)):
         notes += other_fonts(work, name, reading, words)
-    line = "fonts: %d and %d fonts; TeX's pages: %s; `list` beside dvitype: %s; other units or fonts, and complaints: %d" % (
-        len(ours.fonts), len(theirs.fonts), tally.shown(), listed.shown(), len(notes))
+    line = (
+        "fonts: %d and %d fonts; TeX's pages: %s; `list` beside dvitype: %s; other units or fonts, and complaints: %d"
+        % (len(ours.fonts), len(theirs.fonts), tally.shown(), listed.shown(), len(notes))
+    )
     work.show(line, {}, notes + tally.notes + listed.notes)
 
 
 # Bitmaps.
+
 
 def nearest(amount):
     """The nearest whole number, halves away from zero."""
@@ -82,13 +99,29 @@ def pixel(dots):
 def painted(rules, dots, side):
     """The rows of a page of rules in scaled points by the formula of docs/FORMATS.md."""
     unit = pixel(dots)
-    return drawn(((nearest(it.h / unit), nearest(it.v / unit), ceil(it.what[0] / unit), ceil(it.what[1] / unit)) for it in rules), side)
+    return drawn(
+        (
+            (
+                nearest(it.h / unit),
+                nearest(it.v / unit),
+                ceil(it.what[0] / unit),
+                ceil(it.what[1] / unit),
+            )
+            for it in rules
+        ),
+        side,
+    )
 
 
 def dvipng_rules(path, folder, dots):
     """The rules of each page in pixels, from the steps that dvitype says, as dvipng rounds: a pixel is four times a whole number of scaled points,
     and a rule in a line moves by its own width in pixels."""
-    text = subprocess.run(["dvitype", "-output-level=4", path], cwd=folder, stdin=subprocess.DEVNULL, stdout=subprocess.PIPE).stdout.decode("latin-1")
+    text = subprocess.run(
+        ["dvitype", "-output-level=4", path],
+        cwd=folder,
+        stdin=subprocess.DEVNULL,
+        stdout=subprocess.PIPE,
+    ).stdout.decode("latin-1")
     unit, pages, saved = 4 * nearest(pixel(dots) / 4), [], []
     for line in text.split("\n"):
         step = STEP.match(line)
@@ -103,7 +136,11 @@ def dvipng_rules(path, folder, dots):
             column, row = saved.pop()
         elif name in ("setrule", "putrule"):
             high, wide = map(int, RULE.match(rest).groups())
-            pages[-1] += [(column, row, ceil(Fraction(high, unit)), ceil(Fraction(wide, unit)))] if min(high, wide) > 0 else []
+            pages[-1] += (
+                [(column, row, ceil(Fraction(high, unit)), ceil(Fraction(wide, unit)))]
+                if min(high, wide) > 0
+                else []
+            )
             column += nearest(Fraction(wide, unit)) if name == "setrule" else 0
         elif right:
             column = nearest(Fraction(int(right[2]), unit))
@@ -120,11 +157,19 @@ def sheets_script(pages):
     """Pages of rules in rows, some of which are in part above or left of the page."""
     chance, script = Chance(0, SHEET_SEEDS), []
     for page in range(pages):
-        script += ["set hoffset " + dimension(chance, -30, 60), "set voffset " + dimension(chance, -30, 60), "count 0 %d" % page, "vbox into 0"]
+        script += [
+            "set hoffset " + dimension(chance, -30, 60),
+            "set voffset " + dimension(chance, -30, 60),
+            "count 0 %d" % page,
+            "vbox into 0",
+        ]
         for _ in range(4 + chance.below(20)):
             script.append("hbox")
             for _ in range(1 + chance.below(25)):
-                script.append("rule %s %s %s" % (dimension(chance, 0, 40), dimension(chance, 0, 12), dimension(chance, 0, 5)))
+                script.append(
+                    "rule %s %s %s"
+                    % (dimension(chance, 0, 40), dimension(chance, 0, 12), dimension(chance, 0, 5))
+                )
                 script.append("kern " + dimension(chance, -3, 20))
             script.append("end")
         script += ["end", "ship 0"]
@@ -135,21 +180,39 @@ def sheets(work):
     """Each page of a book of rules, by `paint`, by dvipng, and by the formula from the places that dvitype says."""
     dots, side, found, notes = 100, 700, Counter(), []
     work.typeset("sheets", sheets_script(280), [])
-    work.run("dvipng", "-q", "-D", str(dots), "-T", "7in,7in", "-o", "sheet%d.png", "sheets.ours.dvi")
-    pages = zip(by_dvitype("sheets.ours.dvi", work.folder).pages, dvipng_rules("sheets.ours.dvi", work.folder, dots))
+    work.run(
+        "dvipng", "-q", "-D", str(dots), "-T", "7in,7in", "-o", "sheet%d.png", "sheets.ours.dvi"
+    )
+    pages = zip(
+        by_dvitype("sheets.ours.dvi", work.folder).pages,
+        dvipng_rules("sheets.ours.dvi", work.folder, dots),
+    )
     for number, (page, rules) in enumerate(pages, 1):
-        ours, (_, theirs) = work.bitmap("sheets.ours.dvi", number, dots, side), black(work.path("sheet%d.png" % number))
+        ours, (_, theirs) = work.bitmap("sheets.ours.dvi", number, dots, side), black(
+            work.path("sheet%d.png" % number)
+        )
         if painted(page.marks, dots, side) != ours:
             notes.append("page %d: not what FORMATS.md says" % number)
         if drawn(rules, side) != theirs:
             notes.append("page %d: dvipng rounds otherwise" % number)
-        found.update(pages=1, rules=len(page.marks), differ=black_pixels(map(int.__xor__, ours, theirs)))
-    line = "sheets: %d pages, %d rules, %d pixels; that differ from dvipng's %d; pages that are not what FORMATS.md says, or not what dvipng's rounding makes: %d" % (
-        found["pages"], found["rules"], found["pages"] * side * side, found["differ"], len(notes))
+        found.update(
+            pages=1, rules=len(page.marks), differ=black_pixels(map(int.__xor__, ours, theirs))
+        )
+    line = (
+        "sheets: %d pages, %d rules, %d pixels; that differ from dvipng's %d; pages that are not what FORMATS.md says, or not what dvipng's rounding makes: %d"
+        % (
+            found["pages"],
+            found["rules"],
+            found["pages"] * side * side,
+            found["differ"],
+            len(notes),
+        )
+    )
     work.show(line, {}, notes)
 
 
 # Random files.
+
 
 class Letters(Chance):
     """With letters in specials, since dvitype shows these as they are, lines and all."""
@@ -173,14 +236,27 @@ def random_files(work):
         if ours.pages is not None and not theirs.complaints:
             tally.pages(name, ours.pages, theirs.pages)
         elif ours.pages is not None and all(" loaded" in it for it in theirs.complaints):
-            causes["files that define a font, before a page alone or without its metric file, which no page selects"] += 1
+            causes[
+                "files that define a font, before a page alone or without its metric file, which no page selects"
+            ] += 1
         elif (ours.pages is None) != bool(theirs.complaints):
-            notes.append("%s: boxglue: %s; dvitype: %s" % (name, verdict, "; ".join(theirs.complaints[:2]) or "no complaint"))
-    table = ", ".join("%d %s%s" % (count, verdict, ", dvitype complains" if complains else "") for (verdict, complains), count in sorted(together.items()))
-    work.show("random_files: %s; `list` beside dvitype: %s" % (table, tally.shown()), causes, notes + tally.notes)
+            notes.append(
+                "%s: boxglue: %s; dvitype: %s"
+                % (name, verdict, "; ".join(theirs.complaints[:2]) or "no complaint")
+            )
+    table = ", ".join(
+        "%d %s%s" % (count, verdict, ", dvitype complains" if complains else "")
+        for (verdict, complains), count in sorted(together.items())
+    )
+    work.show(
+        "random_files: %s; `list` beside dvitype: %s" % (table, tally.shown()),
+        causes,
+        notes + tally.notes,
+    )
 
 
 # A large file.
+
 
 def listed(lines):
     """The listing that dvitype's lines at level 4 say, of a file that has characters in fonts below 64 and movements alone."""
@@ -218,12 +294,27 @@ def large(work):
     metrics = work.fonts(["cmr10"])
     work.typeset("book", inputs.book(200)[0], metrics)
     with open(work.path("book.ours.dvi"), "rb") as file:
-        content = inputs.repeated_pages(file.read(), 101 if work.most_seeds is None else work.most_seeds - 1)
+        content = inputs.repeated_pages(
+            file.read(), 101 if work.most_seeds is None else work.most_seeds - 1
+        )
     with open(work.path("large.dvi"), "wb") as file:
         file.write(content)
-    with subprocess.Popen([work.program, "list", "large.dvi", *metrics], cwd=work.folder, stdout=subprocess.PIPE) as list_of:
+    with subprocess.Popen(
+        [work.program, "list", "large.dvi", *metrics], cwd=work.folder, stdout=subprocess.PIPE
+    ) as list_of:
         ours = summed(list_of.stdout)
-    with subprocess.Popen(["dvitype", "-output-level=4", "-page-start=" + ".".join("*" * 10), "large.dvi"], cwd=work.folder, stdin=subprocess.DEVNULL, stdout=subprocess.PIPE) as dvitype:
+    with subprocess.Popen(
+        ["dvitype", "-output-level=4", "-page-start=" + ".".join("*" * 10), "large.dvi"],
+        cwd=work.folder,
+        stdin=subprocess.DEVNULL,
+        stdout=subprocess.PIPE,
+    ) as dvitype:
         theirs = summed(listed(dvitype.stdout))
-    line = "large: %d bytes of DVI; listing of %d bytes, md5 %s; of dvitype %d, %s" % (len(content), ours[1], ours[0], theirs[1], theirs[0])
+    line = "large: %d bytes of DVI; listing of %d bytes, md5 %s; of dvitype %d, %s" % (
+        len(content),
+        ours[1],
+        ours[0],
+        theirs[1],
+        theirs[0],
+    )
     work.show(line, {}, ["the listing is another one"] * (ours != theirs))

@@ -21,15 +21,24 @@ class Listing:
     """What tftopl says of a file: its complaints, the characters, the pairs with a step, and whether there are operations other than kerns and plain ligatures."""
 
     def __init__(self, path):
-        done = subprocess.run(["tftopl", "-charcode-format=octal", path], stdin=subprocess.DEVNULL, stdout=subprocess.PIPE, stderr=subprocess.PIPE)
+        done = subprocess.run(
+            ["tftopl", "-charcode-format=octal", path],
+            stdin=subprocess.DEVNULL,
+            stdout=subprocess.PIPE,
+            stderr=subprocess.PIPE,
+        )
         text = done.stdout.decode("latin-1")
         self.path = path
-        self.complaints = [line for line in done.stderr.decode("latin-1").split("\n") if line.strip()]
+        self.complaints = [
+            line for line in done.stderr.decode("latin-1").split("\n") if line.strip()
+        ]
         self.read = done.returncode == 0 and "CHECKSUM" in text
         self.codes = [int(code, 8) for code in re.findall(r"^\(CHARACTER O (\d+)", text, re.M)]
         self.pairs, self.others = [], set()
         lefts = []
-        for word, code in re.findall(r"^   \((LABEL|[/>A-Z]*LIG[/>]*|KRN|STOP)(?: O (\d+))?", text, re.M):
+        for word, code in re.findall(
+            r"^   \((LABEL|[/>A-Z]*LIG[/>]*|KRN|STOP)(?: O (\d+))?", text, re.M
+        ):
             if word == "LABEL":
                 lefts += [int(code, 8)] if code else []
             elif word == "STOP":
@@ -40,7 +49,13 @@ class Listing:
 
 
 def files():
-    found = {os.path.realpath(os.path.join(folder, name)) for tree in TREES for folder, _, names in os.walk(tree) for name in names if name.endswith(".tfm")}
+    found = {
+        os.path.realpath(os.path.join(folder, name))
+        for tree in TREES
+        for folder, _, names in os.walk(tree)
+        for name in names
+        if name.endswith(".tfm")
+    }
     return sorted(found)
 
 
@@ -86,17 +101,31 @@ class Batch:
             self.keys[len(self.keys)] = (key, len(self.box))
 
     def font(self, number, slot, name, size):
-        self.add(["font %d %s%s" % (slot, name, size)], "\\font\\x=%s%s \\say{\\fontname\\x}" % (name, size), ("font", number, slot))
+        self.add(
+            ["font %d %s%s" % (slot, name, size)],
+            "\\font\\x=%s%s \\say{\\fontname\\x}" % (name, size),
+            ("font", number, slot),
+        )
 
     def character(self, slot, code):
-        self.add(["hbox into 0", "use %d" % slot, "char %d" % code, "end"], "\\setbox0=\\hbox{\\x\\noboundary\\char%d \\noboundary}\\saybox0" % code, ("size", slot, code))
+        self.add(
+            ["hbox into 0", "use %d" % slot, "char %d" % code, "end"],
+            "\\setbox0=\\hbox{\\x\\noboundary\\char%d \\noboundary}\\saybox0" % code,
+            ("size", slot, code),
+        )
 
     def words(self, number, slot, words):
         """A page of words. TeX has no boundary character on both sides, as boxglue."""
-        self.add(["count 0 %d" % number, "vbox into 0"], "\\font\\x=f%04d \\count0=%d\\setbox0=\\vbox{\\x" % (number, number))
+        self.add(
+            ["count 0 %d" % number, "vbox into 0"],
+            "\\font\\x=f%04d \\count0=%d\\setbox0=\\vbox{\\x" % (number, number),
+        )
         for word in words:
             codes = "".join("\\char%d " % ord(letter) for letter in word)
-            self.add(["hbox", "use %d" % slot, "text " + word, "end"], "\\hbox{\\noboundary%s\\noboundary}" % codes)
+            self.add(
+                ["hbox", "use %d" % slot, "text " + word, "end"],
+                "\\hbox{\\noboundary%s\\noboundary}" % codes,
+            )
         self.add(["end", "ship 0"], "}\\shipout\\box0")
 
 
@@ -105,15 +134,24 @@ def metrics(work):
     paths = files()
     with ThreadPoolExecutor(2) as pool:
         listings = list(pool.map(Listing, paths))
-    verdicts, causes, notes, sizes, tally, words = Counter(), Counter(), [], Counter(), Tally(), Counter()
+    verdicts, causes, notes, sizes, tally, words = (
+        Counter(),
+        Counter(),
+        [],
+        Counter(),
+        Tally(),
+        Counter(),
+    )
     for first in range(0, len(paths), BATCH):
-        part = listings[first:first + BATCH]
+        part = listings[first : first + BATCH]
         batch = Batch(first, part)
         name = "metrics%d" % first
         for font, path in batch.names.items():
             if not os.path.lexists(work.path(font + ".tfm")):
                 os.symlink(path, work.path(font + ".tfm"))
-        answers = work.typeset(name, "\n".join(batch.box) + "\n", ["%s=%s" % it for it in batch.names.items()])
+        answers = work.typeset(
+            name, "\n".join(batch.box) + "\n", ["%s=%s" % it for it in batch.names.items()]
+        )
         work.tex(name, "\n".join(batch.tex) + "\n\\end\n")
         theirs = work.text(name + ".out").split("\n")[:-1]
         accepted = {}
@@ -123,40 +161,77 @@ def metrics(work):
             elif accepted[key[1]][0] == "ok" and accepted[key[1]][1] != "nullfont":
                 sizes["unequal" if answers[line] != theirs[place] else "equal"] += 1
                 if answers[line] != theirs[place]:
-                    notes.append("%s, character %d: %s and %s" % (part[key[1] % BATCH].path, key[2], answers[line], theirs[place]))
+                    notes.append(
+                        "%s, character %d: %s and %s"
+                        % (part[key[1] % BATCH].path, key[2], answers[line], theirs[place])
+                    )
         for i, listing in enumerate(part):
             ours, tex = accepted[i][0] == "ok", accepted[i][1] != "nullfont"
-            other = [line for line in listing.complaints if line != "but I'll proceed as if it weren't there." and not line.startswith(JUNK)]
+            other = [
+                line
+                for line in listing.complaints
+                if line != "but I'll proceed as if it weren't there." and not line.startswith(JUNK)
+            ]
             quiet = listing.read and not listing.complaints
             verdicts["boxglue"] += ours
             verdicts["tex"] += tex
             verdicts["tftopl"] += quiet
             if ours and tex and listing.read and listing.complaints and not other:
-                causes["files with bytes after their last word, of which tftopl warns; boxglue and tex read them"] += 1
+                causes[
+                    "files with bytes after their last word, of which tftopl warns; boxglue and tex read them"
+                ] += 1
             elif not ours == tex == quiet:
-                notes.append("%s: boxglue: %s; tex: %s; tftopl: %s" % (listing.path, accepted[i][0], "read" if tex else "refused", "; ".join(listing.complaints[:3]) or "no complaint"))
+                notes.append(
+                    "%s: boxglue: %s; tex: %s; tftopl: %s"
+                    % (
+                        listing.path,
+                        accepted[i][0],
+                        "read" if tex else "refused",
+                        "; ".join(listing.complaints[:3]) or "no complaint",
+                    )
+                )
             if ours and accepted[BATCH + i][0] == "refused 3 DimensionTooLarge":
-                causes["fonts with a width, height, depth or kern that does not fit at the other size, which boxglue refuses (FORMATS.md)"] += 1
+                causes[
+                    "fonts with a width, height, depth or kern that does not fit at the other size, which boxglue refuses (FORMATS.md)"
+                ] += 1
             elif accepted[BATCH + i][0] != accepted[i][0]:
                 notes.append("%s: at another size: %s" % (listing.path, accepted[BATCH + i][0]))
-        pages = [{page.counts[0]: page for page in by_dvitype(file, work.folder).named()} for file in (name + ".ours.dvi", name + ".dvi")]
+        pages = [
+            {page.counts[0]: page for page in by_dvitype(file, work.folder).named()}
+            for file in (name + ".ours.dvi", name + ".dvi")
+        ]
         for number in sorted(set(pages[0]) & set(pages[1])):
             listing = listings[number]
             words["with steps"] += bool(listing.pairs)
             one = Tally()
             same = one.page(listing.path, pages[0][number], pages[1][number])
             if not same and listing.others:
-                causes["fonts whose words differ, all with ligatures that keep a character, which boxglue passes over"] += 1
+                causes[
+                    "fonts whose words differ, all with ligatures that keep a character, which boxglue passes over"
+                ] += 1
             else:
                 tally.add(one)
-    line = "metrics: %d files; accepted by boxglue %d, by tex %d, by tftopl without a word %d; sizes of characters: %d equal, %d unequal; words: fonts with steps %d, %s" % (
-        len(paths), verdicts["boxglue"], verdicts["tex"], verdicts["tftopl"], sizes["equal"], sizes["unequal"], words["with steps"], tally.shown())
+    line = (
+        "metrics: %d files; accepted by boxglue %d, by tex %d, by tftopl without a word %d; sizes of characters: %d equal, %d unequal; words: fonts with steps %d, %s"
+        % (
+            len(paths),
+            verdicts["boxglue"],
+            verdicts["tex"],
+            verdicts["tftopl"],
+            sizes["equal"],
+            sizes["unequal"],
+            words["with steps"],
+            tally.shown(),
+        )
+    )
     work.show(line, causes, notes + tally.notes)
 
 
 def damaged(work):
     """Metric files of TeX Live with one byte changed, most of them in the tables that readers check: who reads them."""
-    chosen, small = Chance(0, DAMAGE_SEEDS), [path for path in files() if os.path.getsize(path) < 3000]
+    chosen, small = Chance(0, DAMAGE_SEEDS), [
+        path for path in files() if os.path.getsize(path) < 3000
+    ]
     cases = []
     for number in range(450):
         path = chosen.pick(small)
@@ -173,17 +248,38 @@ def damaged(work):
     together, notes = Counter(), []
     # TeX gives up after a hundred errors.
     for first in range(0, len(cases), 90):
-        part = cases[first:first + 90]
+        part = cases[first : first + 90]
         script = "".join("font %d %s\n" % (i, name) for i, (name, _) in enumerate(part))
-        answers = work.typeset("damaged%d" % first, script, ["%s=%s.tfm" % (name, name) for name, _ in part])
-        work.tex("damaged%d" % first, TEX_HEAD + "".join("\\font\\x=%s \\say{\\fontname\\x}%%\n" % name for name, _ in part) + "\\end\n")
+        answers = work.typeset(
+            "damaged%d" % first, script, ["%s=%s.tfm" % (name, name) for name, _ in part]
+        )
+        work.tex(
+            "damaged%d" % first,
+            TEX_HEAD
+            + "".join("\\font\\x=%s \\say{\\fontname\\x}%%\n" % name for name, _ in part)
+            + "\\end\n",
+        )
         theirs = work.text("damaged%d.out" % first).split("\n")
         for i, (name, what) in enumerate(part):
-            listing, ours, tex = listings[first + i], answers[i + 1], "refused" if theirs[i] == "nullfont" else "read"
-            complaints = [line for line in listing.complaints if JUNK not in line and "but I'll proceed" not in line]
+            listing, ours, tex = (
+                listings[first + i],
+                answers[i + 1],
+                "refused" if theirs[i] == "nullfont" else "read",
+            )
+            complaints = [
+                line
+                for line in listing.complaints
+                if JUNK not in line and "but I'll proceed" not in line
+            ]
             third = "refused" if not listing.read else "corrected" if complaints else "read"
             together[("read" if ours == "ok" else "refused", tex, third)] += 1
             if (ours == "ok") != (tex == "read"):
-                notes.append("%s: boxglue: %s; tex: %s; tftopl: %s, %s" % (what, ours, tex, third, "; ".join(complaints[:2])))
-    table = ", ".join("%d %s by boxglue, %s by tex, %s by tftopl" % (count, *key) for key, count in together.most_common())
+                notes.append(
+                    "%s: boxglue: %s; tex: %s; tftopl: %s, %s"
+                    % (what, ours, tex, third, "; ".join(complaints[:2]))
+                )
+    table = ", ".join(
+        "%d %s by boxglue, %s by tex, %s by tftopl" % (count, *key)
+        for key, count in together.most_common()
+    )
     work.show("damaged: %d files; %s" % (len(cases), table), {}, notes)

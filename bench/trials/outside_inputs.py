@@ -25,14 +25,25 @@ TEX_HEAD = r"""\batchmode \count255=0
 
 class Pair:
     """A script and a text that say the same. `expected` has, for each answer that TeX gives too, the line of the script and the paragraph on which it depends, if any;
-    `paragraphs` the line of the answer to each paragraph, with its parameters; `kinds` the registers with boxes, and whether they are horizontal."""
+    `paragraphs` the line of the answer to each paragraph, with its parameters; `kinds` the registers with boxes, and whether they are horizontal.
+    """
 
     def __init__(self, seed):
         self.used, self.slot, self.hsize = {}, 0, None
-        self.chance, self.box, self.tex, self.expected, self.paragraphs, self.kinds = Chance(seed, TEX_SEEDS), [], [TEX_HEAD], [], [], {}
+        self.chance, self.box, self.tex, self.expected, self.paragraphs, self.kinds = (
+            Chance(seed, TEX_SEEDS),
+            [],
+            [TEX_HEAD],
+            [],
+            [],
+            {},
+        )
         for slot, name, size in FONTS:
-            self.add("font %d %s%s" % (slot, name, " at " + size if size else ""),
-                "\\font\\f%s=%s%s \\hyphenchar\\f%s=-1 " % (letter(slot), name, " at " + size if size else "", letter(slot)))
+            self.add(
+                "font %d %s%s" % (slot, name, " at " + size if size else ""),
+                "\\font\\f%s=%s%s \\hyphenchar\\f%s=-1 "
+                % (letter(slot), name, " at " + size if size else "", letter(slot)),
+            )
         self.font(0)
 
     def add(self, box, tex):
@@ -51,7 +62,12 @@ class Pair:
 
     def glue(self, low=-2, high=12, infinite=0.1, infinite_shrink=0.05):
         least = -2 if self.chance.part(0.1) else 0
-        return generator.glue(self.chance, self.dimen(low, high), lambda: generator.stretch(self.chance, infinite, least, 12), lambda: generator.stretch(self.chance, infinite_shrink, least, 4))
+        return generator.glue(
+            self.chance,
+            self.dimen(low, high),
+            lambda: generator.stretch(self.chance, infinite, least, 12),
+            lambda: generator.stretch(self.chance, infinite_shrink, least, 4),
+        )
 
     def words(self, most=6):
         return generator.words(self.chance, most)
@@ -70,7 +86,10 @@ class Pair:
         self.add("text " + text, "{}%s{}" % text)
 
     def special(self):
-        text = "%s %d" % (self.chance.pick(("color push", "papersize", "html", "src")), self.chance.below(10 ** self.chance.pick((1, 5, 9))))
+        text = "%s %d" % (
+            self.chance.pick(("color push", "papersize", "html", "src")),
+            self.chance.below(10 ** self.chance.pick((1, 5, 9))),
+        )
         text += self.chance.pick(("", "x" * self.chance.pick((30, 300))))
         self.add("special " + text, "\\special{%s}" % text)
 
@@ -91,8 +110,13 @@ class Pair:
         for i in (1, 2) if horizontal else (0,):
             if self.chance.part(0.2):
                 sizes[i] = "*"
-        named = " ".join("%s %s" % it for it in zip(("width", "height", "depth"), sizes) if it[1] != "*")
-        self.add("rule %s %s %s" % tuple(sizes), "\\%srule %s\\relax" % ("v" if horizontal else "h", named))
+        named = " ".join(
+            "%s %s" % it for it in zip(("width", "height", "depth"), sizes) if it[1] != "*"
+        )
+        self.add(
+            "rule %s %s %s" % tuple(sizes),
+            "\\%srule %s\\relax" % ("v" if horizontal else "h", named),
+        )
 
     def register(self, horizontal):
         """A box of a register, or its items, is appended."""
@@ -107,13 +131,19 @@ class Pair:
         tex = "\\%s%d" % (word, number)
         if self.chance.part(0.5):
             amount = self.dimen(-9, 9)
-            shift, tex = " shift " + amount, "\\%s %s%s" % ("lower" if horizontal else "moveright", amount, tex)
+            shift, tex = " shift " + amount, "\\%s %s%s" % (
+                "lower" if horizontal else "moveright",
+                amount,
+                tex,
+            )
         self.add("%s %d%s" % (word, number, shift), tex)
 
     # Boxes.
 
     def opening(self):
-        return self.chance.pick(("hbox", "hbox", "vbox", "vbox", "vtop")), self.chance.pick((" ", " ", " to " + self.dimen(0, 250), " spread " + self.dimen(-9, 25)))
+        return self.chance.pick(("hbox", "hbox", "vbox", "vbox", "vtop")), self.chance.pick(
+            (" ", " ", " to " + self.dimen(0, 250), " spread " + self.dimen(-9, 25))
+        )
 
     def inner_box(self, depth):
         form, size = self.opening()
@@ -128,7 +158,9 @@ class Pair:
 
     def items(self, horizontal, depth):
         for _ in range(self.chance.pick((0, 1, 3, 6, 10, 15))):
-            kind = self.chance.pick("rule rule kern skip skip penalty special box register words words last".split())
+            kind = self.chance.pick(
+                "rule rule kern skip skip penalty special box register words words last".split()
+            )
             if kind == "rule":
                 self.rule(horizontal)
             elif kind == "kern":
@@ -158,7 +190,9 @@ class Pair:
         self.set("lineskiplimit", self.dimen(-2, 2))
         self.set("boxmaxdepth", self.dimen(0, 6) if self.chance.part(0.5) else "1073741823sp")
         form, size = self.opening()
-        self.add("%s%s into %d" % (form, size, register), "\\setbox%d=\\%s%s{" % (register, form, size))
+        self.add(
+            "%s%s into %d" % (form, size, register), "\\setbox%d=\\%s%s{" % (register, form, size)
+        )
         self.items(form == "hbox", 0)
         self.asked("end", "}\\saybox{%d}" % register)
         self.kinds[register] = form == "hbox"
@@ -175,20 +209,33 @@ class Pair:
         for name, (common, _) in NUMBERS.items():
             self.used[name] = self.chance.pick(common)
             self.set(name, self.used[name])
-        self.set("parfillskip", self.chance.pick([*["0pt plus 1fil"] * 3, "20pt plus 60pt minus 20pt", "0pt plus 300pt"]))
+        self.set(
+            "parfillskip",
+            self.chance.pick(
+                [*["0pt plus 1fil"] * 3, "20pt plus 60pt minus 20pt", "0pt plus 300pt"]
+            ),
+        )
 
     def first_lines(self):
         """Some first lines get a width of their own, or none does."""
         lines = self.chance.pick((0, 0, 1, 2, 3, 5))
         width = self.dimen(90, 420)
-        shape = "\\parshape%d %s 0pt %s\\relax" % (lines + 1, "0pt %s " % width * lines, self.hsize) if lines else ""
+        shape = (
+            "\\parshape%d %s 0pt %s\\relax" % (lines + 1, "0pt %s " % width * lines, self.hsize)
+            if lines
+            else ""
+        )
         self.add("set firstlines %d" % lines, shape)
         self.box.append("set firstsize " + width)
 
     def piece(self, kind):
         """One or more items of a paragraph."""
         if kind == "text":
-            self.text(self.chance.pick(("", " ")) + self.words(12).capitalize() + self.chance.pick((". ", ", ", " ", "")))
+            self.text(
+                self.chance.pick(("", " "))
+                + self.words(12).capitalize()
+                + self.chance.pick((". ", ", ", " ", ""))
+            )
         elif kind == "rule":
             self.rule(True, 40)
         elif kind == "skip":
@@ -204,25 +251,43 @@ class Pair:
 
     def paragraph(self, number, pieces, kinds):
         """A paragraph in the open vertical list. TeX says in its log which one it was and how many lines it has; its trace is before that.
-        It is `loose` where a line may have no items: between a place and a later one are glue, kerns and penalties alone."""
+        It is `loose` where a line may have no items: between a place and a later one are glue, kerns and penalties alone.
+        """
         self.add("par", "\\noindent")
         chosen = [self.chance.pick(kinds) for _ in range(pieces)]
         for kind in chosen:
             self.piece(kind)
         dropped = [it in ("skip", "kern", "penalty") for it in chosen] + [True]
-        places = [it == "penalty" or (it, after) == ("kern", "skip") for it, after in zip(chosen, chosen[1:] + ["end"])] + [True]
-        self.used["loose"] = any(dropped[at - 1] and dropped[at] and places[at] for at in range(1, len(chosen))) or len(chosen) > 1 and all(dropped[-3:])
-        self.add("end", "\\par\\count250=\\prevgraf\\immediate\\write-1{@paragraph %d \\the\\count250}" % number)
+        places = [
+            it == "penalty" or (it, after) == ("kern", "skip")
+            for it, after in zip(chosen, chosen[1:] + ["end"])
+        ] + [True]
+        self.used["loose"] = (
+            any(dropped[at - 1] and dropped[at] and places[at] for at in range(1, len(chosen)))
+            or len(chosen) > 1
+            and all(dropped[-3:])
+        )
+        self.add(
+            "end",
+            "\\par\\count250=\\prevgraf\\immediate\\write-1{@paragraph %d \\the\\count250}"
+            % number,
+        )
         self.paragraphs.append((number, len(self.box), dict(self.used)))
 
     # Lists that are split.
 
     def split(self, register, height, paragraph=None):
-        self.asked("vsplit %d to %s into 2" % (register, height), "\\setbox2=\\vsplit%d to %s\\relax\\saysplit%d2" % (register, height, register), paragraph)
+        self.asked(
+            "vsplit %d to %s into 2" % (register, height),
+            "\\setbox2=\\vsplit%d to %s\\relax\\saysplit%d2" % (register, height, register),
+            paragraph,
+        )
 
     def vertical_items(self, count):
         for _ in range(count):
-            kind = self.chance.pick("rule hbox hbox text skip skip skip kern penalty special vbox".split())
+            kind = self.chance.pick(
+                "rule hbox hbox text skip skip skip kern penalty special vbox".split()
+            )
             if kind == "rule":
                 self.rule(False, 20)
             elif kind == "hbox":
@@ -288,7 +353,11 @@ def paragraphs(seed, count, kinds):
         pair.font(pair.chance.pick((0, 0, 0, 1)))
         pair.add("vbox into 1", "\\setbox1=\\vbox{")
         pair.first_lines()
-        pair.paragraph(number, pair.chance.pick((1, 2, 5, 10, 20)) * (2 if kinds == "rules" else 1), KINDS[kinds])
+        pair.paragraph(
+            number,
+            pair.chance.pick((1, 2, 5, 10, 20)) * (2 if kinds == "rules" else 1),
+            KINDS[kinds],
+        )
         pair.asked("end", "}\\saybox1", number)
         pair.ship(1, number)
     return pair
@@ -296,7 +365,8 @@ def paragraphs(seed, count, kinds):
 
 def long_paragraphs(seed, count):
     """Paragraphs of hundreds and thousands of places, each a page of its own. Lines are so wide that the height of the box fits.
-    There is no box, and the tolerance takes every line that is not overfull, so that few are in pass 3."""
+    There is no box, and the tolerance takes every line that is not overfull, so that few are in pass 3.
+    """
     pair = Pair(seed)
     pair.tex.append("\\tracingparagraphs1 ")
     for number in range(count):

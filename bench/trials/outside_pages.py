@@ -31,8 +31,13 @@ class Reading:
 
     def named(self):
         """The same pages with the name and the size of a font in the place of its number, since two writers number fonts differently."""
+
         def of(mark):
-            return mark._replace(what=(self.fonts[mark.what[0]], mark.what[1])) if mark.kind == "glyph" else mark
+            return (
+                mark._replace(what=(self.fonts[mark.what[0]], mark.what[1]))
+                if mark.kind == "glyph"
+                else mark
+            )
 
         return [Page(page.counts, [of(mark) for mark in page.marks]) for page in self.pages]
 
@@ -41,7 +46,13 @@ def by_dvitype(path, folder):
     """A reading by dvitype, from its text at level 4. It says each new h and v, so nothing is added up here."""
     # With ten stars dvitype says all ten counts of a page.
     words = ["dvitype", "-output-level=4", "-page-start=" + ".".join("*" * 10), path]
-    with subprocess.Popen(words, cwd=folder, stdin=subprocess.DEVNULL, stdout=subprocess.PIPE, stderr=subprocess.STDOUT) as done:
+    with subprocess.Popen(
+        words,
+        cwd=folder,
+        stdin=subprocess.DEVNULL,
+        stdout=subprocess.PIPE,
+        stderr=subprocess.STDOUT,
+    ) as done:
         text = done.stdout.read(MOST_TEXT).decode("latin-1")
         # After the end of a file dvitype reads zeros, so a special may have as many as its length says.
         if len(text) == MOST_TEXT:
@@ -55,7 +66,11 @@ def by_dvitype(path, folder):
             continue
         step = STEP.match(line)
         name, number, rest = step.groups() if step else (None, None, None)
-        if COMPLAINT.search(OUTSIDE.sub("", line)) if name != "xxx" else "string of negative length!" in line:
+        if (
+            COMPLAINT.search(OUTSIDE.sub("", line))
+            if name != "xxx"
+            else "string of negative length!" in line
+        ):
             complaints.append(line)
         if name == "beginning":
             counts = [int(it) for it in rest.split()[2].split(".")]
@@ -70,7 +85,7 @@ def by_dvitype(path, folder):
             if min(sizes) > 0:
                 marks.append(Mark("rule", sizes, h, v))
         elif name == "xxx":
-            marks.append(Mark("special", rest[1:rest.rindex("'")], h, v))
+            marks.append(Mark("special", rest[1 : rest.rindex("'")], h, v))
         elif name == "fntnum":
             font = int(number)
         elif name == "fnt":
@@ -100,7 +115,13 @@ def unescaped(text):
 
 def by_boxglue(program, path, folder, fonts):
     """A reading by `boxglue list` with these words for the fonts; its pages are None where the file is refused."""
-    done = subprocess.run([program, "list", path, *fonts], cwd=folder, stdin=subprocess.DEVNULL, stdout=subprocess.PIPE, stderr=subprocess.STDOUT)
+    done = subprocess.run(
+        [program, "list", path, *fonts],
+        cwd=folder,
+        stdin=subprocess.DEVNULL,
+        stdout=subprocess.PIPE,
+        stderr=subprocess.STDOUT,
+    )
     text = done.stdout.decode("latin-1")
     if done.returncode:
         return Reading(None, {}, [text.strip()])
@@ -136,10 +157,22 @@ class Tally:
         if ours.counts != theirs.counts:
             self.far["page"] += 1
             self.note("%s: counts %s and %s" % (name, ours.counts, theirs.counts))
-        if [(mark.kind, mark.what) for mark in ours.marks] != [(mark.kind, mark.what) for mark in theirs.marks]:
+        if [(mark.kind, mark.what) for mark in ours.marks] != [
+            (mark.kind, mark.what) for mark in theirs.marks
+        ]:
             self.far["page"] += 1
-            at = next((i for i, two in enumerate(zip(ours.marks, theirs.marks)) if two[0][:2] != two[1][:2]), min(len(ours.marks), len(theirs.marks)))
-            self.note("%s: other marks from mark %d: %s and %s" % (name, at, ours.marks[at:at + 1], theirs.marks[at:at + 1]))
+            at = next(
+                (
+                    i
+                    for i, two in enumerate(zip(ours.marks, theirs.marks))
+                    if two[0][:2] != two[1][:2]
+                ),
+                min(len(ours.marks), len(theirs.marks)),
+            )
+            self.note(
+                "%s: other marks from mark %d: %s and %s"
+                % (name, at, ours.marks[at : at + 1], theirs.marks[at : at + 1])
+            )
             return False
         same = True
         for one, other in zip(ours.marks, theirs.marks):
@@ -158,16 +191,37 @@ class Tally:
         if len(ours) != len(theirs):
             self.far["page"] += 1
             self.note("%s: %d and %d pages" % (name, len(ours), len(theirs)))
-        return all([self.page("%s, page %d" % (name, i + 1), one, other) for i, (one, other) in enumerate(zip(ours, theirs))])
+        return all(
+            [
+                self.page("%s, page %d" % (name, i + 1), one, other)
+                for i, (one, other) in enumerate(zip(ours, theirs))
+            ]
+        )
 
     def add(self, other):
-        self.seen, self.near, self.far, self.notes = self.seen + other.seen, self.near + other.near, self.far + other.far, self.notes + other.notes
+        self.seen, self.near, self.far, self.notes = (
+            self.seen + other.seen,
+            self.near + other.near,
+            self.far + other.far,
+            self.notes + other.notes,
+        )
 
     def shown(self):
         def counts(counter):
-            return ", ".join("%d %s%s" % (counter[kind], kind, "" if counter[kind] == 1 else "s") for kind in ("page", "glyph", "rule", "special") if counter[kind]) or "nothing"
+            return (
+                ", ".join(
+                    "%d %s%s" % (counter[kind], kind, "" if counter[kind] == 1 else "s")
+                    for kind in ("page", "glyph", "rule", "special")
+                    if counter[kind]
+                )
+                or "nothing"
+            )
 
-        return "%s; 1 sp off: %s; otherwise: %s" % (counts(self.seen), counts(self.near), counts(self.far))
+        return "%s; 1 sp off: %s; otherwise: %s" % (
+            counts(self.seen),
+            counts(self.near),
+            counts(self.far),
+        )
 
 
 def black(path):
@@ -176,17 +230,29 @@ def black(path):
         data = file.read()
     parts, at = {}, 8
     while at < len(data):
-        length, kind = struct.unpack(">I4s", data[at:at + 8])
-        parts[kind] = parts.get(kind, b"") + data[at + 8:at + 8 + length]
+        length, kind = struct.unpack(">I4s", data[at : at + 8])
+        parts[kind] = parts.get(kind, b"") + data[at + 8 : at + 8 + length]
         at += length + 12
     width, height, depth = struct.unpack(">IIB", parts[b"IHDR"][:9])
-    colours = [sum(parts[b"PLTE"][i:i + 3]) < 384 for i in range(0, len(parts[b"PLTE"]), 3)]
+    colours = [sum(parts[b"PLTE"][i : i + 3]) < 384 for i in range(0, len(parts[b"PLTE"]), 3)]
     each = 8 // depth
-    shown = ["".join("01"[colours[value >> shift & (1 << depth) - 1] if value >> shift & (1 << depth) - 1 < len(colours) else 0] for shift in range(8 - depth, -1, -depth)) for value in range(256)]
+    shown = [
+        "".join(
+            "01"[
+                colours[value >> shift & (1 << depth) - 1]
+                if value >> shift & (1 << depth) - 1 < len(colours)
+                else 0
+            ]
+            for shift in range(8 - depth, -1, -depth)
+        )
+        for value in range(256)
+    ]
     data, size, above, rows = zlib.decompress(parts[b"IDAT"]), -(-width // each), None, []
     above = bytearray(size)
     for row in range(height):
-        kind, line = data[row * (size + 1)], bytearray(data[row * (size + 1) + 1:(row + 1) * (size + 1)])
+        kind, line = data[row * (size + 1)], bytearray(
+            data[row * (size + 1) + 1 : (row + 1) * (size + 1)]
+        )
         for i in range(size if kind else 0):
             left, up, corner = (line[i - 1] if i else 0), above[i], (above[i - 1] if i else 0)
             guess = left + up - corner

@@ -8,11 +8,13 @@ import outside_inputs
 from outside_pages import Tally, by_dvitype
 
 # TeX takes no list of breaks of more demerits.
-MOST_DEMERITS = 2 ** 30 - 1
+MOST_DEMERITS = 2**30 - 1
 
 
 # TeX: The Program, 837, takes off from a line what is dropped after its first place, up to the next box, also where the line ends before that.
-LOOSE = "paragraphs with a line without items, which TeX measures by the glue that is dropped after it"
+LOOSE = (
+    "paragraphs with a line without items, which TeX measures by the glue that is dropped after it"
+)
 
 
 class Compared:
@@ -32,24 +34,38 @@ def run_pair(work, name, pair, found):
     work.tex(name, text)
     theirs = work.text(name + ".out").split("\n")[:-1]
     if len(theirs) != len(pair.expected):
-        sys.exit("%s: TeX gave %d answers, not %d; see %s" % (name, len(theirs), len(pair.expected), work.path(name + ".log")))
+        sys.exit(
+            "%s: TeX gave %d answers, not %d; see %s"
+            % (name, len(theirs), len(pair.expected), work.path(name + ".log"))
+        )
     unequal = []
     for (line, paragraph), answer in zip(pair.expected, theirs):
         found.answers[answer.split()[0]] += 1
         if answers[line] != answer:
-            unequal.append((paragraph, "%s, line %d: %s and %s" % (name, line, answers[line], answer)))
-    ours, other = by_dvitype(name + ".ours.dvi", work.folder), by_dvitype(name + ".dvi", work.folder)
+            unequal.append(
+                (paragraph, "%s, line %d: %s and %s" % (name, line, answers[line], answer))
+            )
+    ours, other = by_dvitype(name + ".ours.dvi", work.folder), by_dvitype(
+        name + ".dvi", work.folder
+    )
     found.unequal += ["%s: dvitype: %s" % (name, it) for it in ours.complaints]
     listing = work.listing(name + ".ours.dvi", fonts)
     found.listed.pages(name, listing.pages or [], ours.pages)
-    return answers, {page.counts[0]: page for page in ours.named()}, {page.counts[0]: page for page in other.named()}, unequal
+    return (
+        answers,
+        {page.counts[0]: page for page in ours.named()},
+        {page.counts[0]: page for page in other.named()},
+        unequal,
+    )
 
 
 def alike(found, name, ours, theirs, unequal, without=()):
     """Compares pages and answers, without those of some paragraphs."""
     found.unequal += [text for paragraph, text in unequal if paragraph not in without]
     if set(ours) != set(theirs):
-        found.unequal.append("%s: pages %s of one file only" % (name, sorted(set(ours) ^ set(theirs))[:9]))
+        found.unequal.append(
+            "%s: pages %s of one file only" % (name, sorted(set(ours) ^ set(theirs))[:9])
+        )
     for count in sorted(set(ours) & set(theirs)):
         if count not in without:
             found.ours.page("%s, page with count %d" % (name, count), ours[count], theirs[count])
@@ -58,8 +74,16 @@ def alike(found, name, ours, theirs, unequal, without=()):
 def said(work, part, found):
     """Prints what came out of a part."""
     answers = ", ".join("%d %s" % (count, word) for word, count in sorted(found.answers.items()))
-    line = "%s: answers %s, unequal %d; TeX's pages: %s; `list` beside dvitype: %s" % (part, answers, len(found.unequal), found.ours.shown(), found.listed.shown())
-    work.show(line, found.causes, found.unequal + found.ours.notes + found.listed.notes + found.ties)
+    line = "%s: answers %s, unequal %d; TeX's pages: %s; `list` beside dvitype: %s" % (
+        part,
+        answers,
+        len(found.unequal),
+        found.ours.shown(),
+        found.listed.shown(),
+    )
+    work.show(
+        line, found.causes, found.unequal + found.ours.notes + found.listed.notes + found.ties
+    )
 
 
 def boxes(work):
@@ -132,10 +156,17 @@ def traces(log):
 
 def judged(answer, trace, used, found, where):
     """Compares the answer to a paragraph with TeX's trace; says whether its lines are comparable."""
-    lines, decided, overhang, total = map(int, re.fullmatch(r"paragraph lines (\d+) pass (\d) overhang (-?\d+) demerits (-?\d+)", answer).groups())
+    lines, decided, overhang, total = map(
+        int,
+        re.fullmatch(
+            r"paragraph lines (\d+) pass (\d) overhang (-?\d+) demerits (-?\d+)", answer
+        ).groups(),
+    )
     # Without demerits, a line is one that TeX takes for want of a better one, or the only one that reaches a forced place (TeX: The Program, 854).
     free = [badness for badness, demerits in trace.chain if demerits == "*"]
-    forced = [int(badness) for badness in free if badness != "*" and int(badness) <= used["tolerance"]]
+    forced = [
+        int(badness) for badness in free if badness != "*" and int(badness) <= used["tolerance"]
+    ]
     attempt = 3 if len(forced) < len(free) else trace.attempt
     if total > MOST_DEMERITS:
         found.causes["paragraphs above 2^30 - 1 demerits, which TeX does not take"] += 1
@@ -150,25 +181,45 @@ def judged(answer, trace, used, found, where):
         found.causes["paragraphs in pass 3, which is boxglue's own, not compared"] += 1
         return False
     found.answers["paragraphs in pass %d" % decided] += 1
-    missing = sum(min((used["linepenalty"] + badness) ** 2, 10 ** 8) for badness in forced)
-    if total != trace.total and forced and (total - trace.total - missing) in [used["adjdemerits"] * count for count in range(len(forced) + 1)]:
-        found.causes["totals without the demerits of a line to a forced place, which TeX leaves out in its last pass where one list reaches it"] += 1
+    missing = sum(min((used["linepenalty"] + badness) ** 2, 10**8) for badness in forced)
+    if (
+        total != trace.total
+        and forced
+        and (total - trace.total - missing)
+        in [used["adjdemerits"] * count for count in range(len(forced) + 1)]
+    ):
+        found.causes[
+            "totals without the demerits of a line to a forced place, which TeX leaves out in its last pass where one list reaches it"
+        ] += 1
     elif total > trace.total and used["loose"]:
         found.causes[LOOSE] += 1
         return False
     elif total != trace.total or lines != len(trace.chain) or lines != trace.lines:
-        found.unequal.append("%s: %s; TeX: lines %d, demerits %d" % (where, answer, trace.lines, trace.total))
+        found.unequal.append(
+            "%s: %s; TeX: lines %d, demerits %d" % (where, answer, trace.lines, trace.total)
+        )
     return True
 
 
 def paragraphs(work):
     """Random paragraphs of rules and of text, with first lines of their own width."""
-    broken(work, "paragraphs", (outside_inputs.paragraphs(seed, 100, "rules" if seed % 2 else "text") for seed in work.seeds(40)))
+    broken(
+        work,
+        "paragraphs",
+        (
+            outside_inputs.paragraphs(seed, 100, "rules" if seed % 2 else "text")
+            for seed in work.seeds(40)
+        ),
+    )
 
 
 def long_paragraphs(work):
     """Random paragraphs of text of up to 8,192 places."""
-    broken(work, "long_paragraphs", (outside_inputs.long_paragraphs(seed, 10) for seed in work.seeds(6)))
+    broken(
+        work,
+        "long_paragraphs",
+        (outside_inputs.long_paragraphs(seed, 10) for seed in work.seeds(6)),
+    )
 
 
 def broken(work, part, pairs):
@@ -178,9 +229,19 @@ def broken(work, part, pairs):
         name = "%s%d" % (part, seed)
         answers, ours, theirs, unequal = run_pair(work, name, pair, found)
         traced = traces(work.text(name + ".log"))
-        without = [number for number, line, used in pair.paragraphs if not judged(answers[line], traced[number], used, found, "%s, paragraph %d" % (name, number))]
+        without = [
+            number
+            for number, line, used in pair.paragraphs
+            if not judged(
+                answers[line], traced[number], used, found, "%s, paragraph %d" % (name, number)
+            )
+        ]
         # Where boxglue's list has the demerits of TeX's, but other lines, both are the least.
-        ties = [number for number in set(ours) & set(theirs) - set(without) if not Tally().page("", ours[number], theirs[number])]
+        ties = [
+            number
+            for number in set(ours) & set(theirs) - set(without)
+            if not Tally().page("", ours[number], theirs[number])
+        ]
         for number in ties:
             found.causes["paragraphs with equal demerits and other breaks"] += 1
             found.ties.append("%s, paragraph %d: equal demerits, other breaks" % (name, number))
@@ -196,13 +257,32 @@ def pages(work):
         pair = outside_inputs.pages(seed, 8)
         answers, ours, theirs, unequal = run_pair(work, name, pair, found)
         traced, before = traces(work.text(name + ".log")), len(found.unequal)
-        found.unequal += ["%s, line %d: pass 3" % (name, line) for number, line, used in pair.paragraphs if not judged(answers[line], traced[number], used, found, "%s, paragraph %d" % (name, number))]
+        found.unequal += [
+            "%s, line %d: pass 3" % (name, line)
+            for number, line, used in pair.paragraphs
+            if not judged(
+                answers[line], traced[number], used, found, "%s, paragraph %d" % (name, number)
+            )
+        ]
         # Where all demerits are those of TeX, lines with other breaks are as good.
-        ties = [count for count in set(ours) & set(theirs) if len(found.unequal) == before and not Tally().page("", ours[count], theirs[count])]
+        ties = [
+            count
+            for count in set(ours) & set(theirs)
+            if len(found.unequal) == before and not Tally().page("", ours[count], theirs[count])
+        ]
         for count in ties:
             found.causes["pages with a paragraph of equal demerits and other breaks"] += 1
-            found.ties.append("%s, page with count %d: equal demerits, other breaks" % (name, count))
+            found.ties.append(
+                "%s, page with count %d: equal demerits, other breaks" % (name, count)
+            )
         # The answers about a list with such a paragraph may differ too.
         lists = {count // 10 for count in ties}
-        alike(found, name, ours, theirs, [(None, text) for number, text in unequal if number not in lists], ties)
+        alike(
+            found,
+            name,
+            ours,
+            theirs,
+            [(None, text) for number, text in unequal if number not in lists],
+            ties,
+        )
     said(work, "pages", found)

@@ -18,13 +18,18 @@ class SessionWork(Work):
     def typeset(self, name, script, fonts):
         self.put(name + ".box", script)
         words, answers = [self.program, "session", name + ".ours.dvi", *fonts], []
-        with subprocess.Popen(words, cwd=self.folder, stdin=subprocess.PIPE, stdout=subprocess.PIPE, bufsize=0) as session:
+        with subprocess.Popen(
+            words, cwd=self.folder, stdin=subprocess.PIPE, stdout=subprocess.PIPE, bufsize=0
+        ) as session:
             for line in script.encode().splitlines(keepends=True):
                 session.stdin.write(line)
                 answers.append(one_line(session.stdout.fileno(), line))
             session.stdin.close()
             answers.append(session.stdout.read())
-        return {int(number): answer for number, answer in re.findall(r"^(\d+): (.*)$", b"".join(answers).decode(), re.M)}
+        return {
+            int(number): answer
+            for number, answer in re.findall(r"^(\d+): (.*)$", b"".join(answers).decode(), re.M)
+        }
 
 
 def one_line(output, given):

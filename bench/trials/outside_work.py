@@ -14,7 +14,12 @@ class Work:
     """A folder for inputs and outputs, and how programs are run there."""
 
     def __init__(self, program, folder, notes, most_seeds):
-        self.program, self.folder, self.notes, self.most_seeds = os.path.abspath(program), folder, notes, most_seeds
+        self.program, self.folder, self.notes, self.most_seeds = (
+            os.path.abspath(program),
+            folder,
+            notes,
+            most_seeds,
+        )
 
     def path(self, name):
         return os.path.join(self.folder, name)
@@ -29,7 +34,14 @@ class Work:
 
     def run(self, *words, stdin=None):
         """Status and all output of a run."""
-        done = subprocess.run(words, cwd=self.folder, env=LONG_LINES, input=(stdin or "").encode(), stdout=subprocess.PIPE, stderr=subprocess.STDOUT)
+        done = subprocess.run(
+            words,
+            cwd=self.folder,
+            env=LONG_LINES,
+            input=(stdin or "").encode(),
+            stdout=subprocess.PIPE,
+            stderr=subprocess.STDOUT,
+        )
         return done.returncode, done.stdout.decode("latin-1")
 
     def fonts(self, names):
@@ -52,12 +64,16 @@ class Work:
         words = f"paint --page {page} --dpi {dots} --width {side} --height {side}".split()
         text = self.run(self.program, *words, path)[1]
         digits = text.split("\n", 2)[2].replace("\n", "")
-        return [int(digits[i * side:(i + 1) * side], 2) for i in range(side)]
+        return [int(digits[i * side : (i + 1) * side], 2) for i in range(side)]
 
     def units_and_fonts(self, path, _fonts):
         """The units of a DVI file (numerator, denominator, magnification), and its fonts: number, name, size, design size and check sum of each."""
-        units, *lines = [line.split() for line in self.run(self.program, "fonts", path)[1].splitlines()]
-        return tuple(map(int, units[1:])), [(int(it[1]), it[2], int(it[3]), int(it[4]), int(it[5], 16)) for it in lines]
+        units, *lines = [
+            line.split() for line in self.run(self.program, "fonts", path)[1].splitlines()
+        ]
+        return tuple(map(int, units[1:])), [
+            (int(it[1]), it[2], int(it[3]), int(it[4]), int(it[5], 16)) for it in lines
+        ]
 
     def tex(self, name, text, program="tex"):
         self.put(name + ".tex", text)
@@ -72,7 +88,7 @@ class Work:
         print(line, flush=True)
         for cause, count in sorted(causes.items()):
             print("    %d: %s" % (count, cause))
-        for note in notes[:self.notes]:
+        for note in notes[: self.notes]:
             print("    " + note[:300])
         if len(notes) > self.notes:
             print("    and %d more" % (len(notes) - self.notes))

@@ -17,7 +17,19 @@ import time
 
 ROOT = os.path.dirname(os.path.dirname(os.path.dirname(os.path.abspath(__file__))))
 # Pandoc's readers by the ends of names. A page of the manual ends with its section.
-READERS = {"md": "gfm", "markdown": "markdown", "rst": "rst", "org": "org", "docbook": "docbook", "xml": "docbook", "html": "html", "1": "man", "5": "man", "7": "man", "8": "man"}
+READERS = {
+    "md": "gfm",
+    "markdown": "markdown",
+    "rst": "rst",
+    "org": "org",
+    "docbook": "docbook",
+    "xml": "docbook",
+    "html": "html",
+    "1": "man",
+    "5": "man",
+    "7": "man",
+    "8": "man",
+}
 FIELDS = "document format pages overfull loose seconds MB pandoc boxglue dvipdfmx".split()
 LIMIT = 900
 SAID = re.compile(r"^(\d+) pages, .*?(\d+) of them overfull, (\d+) with", re.M)
@@ -47,7 +59,13 @@ def text_of(path):
 
 def run(words, **more):
     """Runs a program. Returns its status, its output, its errors, its seconds and its most memory in MB; a status of its own where it takes too long."""
-    with subprocess.Popen(words, stdin=subprocess.PIPE, stdout=subprocess.PIPE, stderr=subprocess.PIPE, cwd=more.get("cwd")) as it:
+    with subprocess.Popen(
+        words,
+        stdin=subprocess.PIPE,
+        stdout=subprocess.PIPE,
+        stderr=subprocess.PIPE,
+        cwd=more.get("cwd"),
+    ) as it:
         try:
             out, errors = it.communicate(more.get("input", b""), timeout=LIMIT)
         except subprocess.TimeoutExpired:
@@ -60,10 +78,17 @@ def run(words, **more):
 def measured(words, source):
     """Runs a program over a text. Returns its status, its errors, its seconds of processor and its most memory in MB."""
     with open(f"{source}.said", "wb") as said:
-        it = subprocess.Popen(words, stdin=subprocess.DEVNULL, stdout=subprocess.DEVNULL, stderr=said)
+        it = subprocess.Popen(
+            words, stdin=subprocess.DEVNULL, stdout=subprocess.DEVNULL, stderr=said
+        )
         _, status, usage = os.wait4(it.pid, 0)
     with open(f"{source}.said", encoding="utf-8", errors="replace") as it:
-        return os.waitstatus_to_exitcode(status), it.read(), usage.ru_utime + usage.ru_stime, usage.ru_maxrss / 1024
+        return (
+            os.waitstatus_to_exitcode(status),
+            it.read(),
+            usage.ru_utime + usage.ru_stime,
+            usage.ru_maxrss / 1024,
+        )
 
 
 def set_document(path, reader, words, number):
@@ -75,12 +100,24 @@ def set_document(path, reader, words, number):
         return {**row, "pandoc": errors.decode(errors="replace").strip()[:200] or str(status)}
     with open(f"{source}.json", "wb") as it:
         it.write(made)
-    command = [sys.executable, f"{ROOT}/examples/pandoc/pandoc_pages.py", f"{source}.dvi", f"{source}.json", "--pictures", os.path.dirname(path)]
-    status, said, seconds, memory = measured(command + ["--hyphens", words.hyphens] * bool(words.hyphens), source)
+    command = [
+        sys.executable,
+        f"{ROOT}/examples/pandoc/pandoc_pages.py",
+        f"{source}.dvi",
+        f"{source}.json",
+        "--pictures",
+        os.path.dirname(path),
+    ]
+    status, said, seconds, memory = measured(
+        command + ["--hyphens", words.hyphens] * bool(words.hyphens), source
+    )
     row |= {"seconds": f"{seconds:.2f}", "MB": f"{memory:.0f}"}
     found = SAID.search(said)
     if status or not found:
-        return {**row, "boxglue": said.strip().splitlines()[-1][:200] if said.strip() else str(status)}
+        return {
+            **row,
+            "boxglue": said.strip().splitlines()[-1][:200] if said.strip() else str(status),
+        }
     row |= dict(zip(["pages", "overfull", "loose"], found.groups()))
     status, _, errors = run(["dvipdfmx", "-q", "-o", f"{source}.pdf", f"{source}.dvi"])[:3]
     wrong = [it for it in errors.decode(errors="replace").splitlines() if it.strip()]
@@ -89,7 +126,10 @@ def set_document(path, reader, words, number):
 
 def beside(path, words, number):
     """A row of the second table: a document by both."""
-    row, source = set_document(path, reader_of(path), words, f"beside{number}"), f"{words.out}/beside{number}"
+    row, source = (
+        set_document(path, reader_of(path), words, f"beside{number}"),
+        f"{words.out}/beside{number}",
+    )
     run(["pandoc", "-s", "-t", "latex", "-f", "json", f"{source}.json", "-o", f"{source}.tex"])
     run(["pdflatex", "-interaction=nonstopmode", f"-output-directory={words.out}", f"{source}.tex"])
     with open(f"{source}.log", encoding="utf-8", errors="replace") as it:
@@ -108,7 +148,10 @@ def table(rows):
         by_format[it["format"]].append(it)
         by_format["all"].append(it)
     for name, its in sorted(by_format.items(), key=lambda it: (it[0] == "all", it[0])):
-        total = {field: sum(float(it[field] or 0) for it in its) for field in ("pages", "overfull", "loose", "seconds")}
+        total = {
+            field: sum(float(it[field] or 0) for it in its)
+            for field in ("pages", "overfull", "loose", "seconds")
+        }
         wrong = [sum(bool(it[field]) for it in its) for field in ("pandoc", "boxglue", "dvipdfmx")]
         most = max(float(it["MB"] or 0) for it in its)
         yield f"| {name} | {len(its)} | {total['pages']:,.0f} | {' | '.join(map(str, wrong))} | {total['overfull']:,.0f} | {total['loose']:,.0f} | {total['seconds']:,.0f} | {most:.0f} |"
@@ -116,12 +159,20 @@ def table(rows):
 
 def main():
     """Runs the command line."""
-    parser = argparse.ArgumentParser(description=__doc__, formatter_class=argparse.RawDescriptionHelpFormatter)
+    parser = argparse.ArgumentParser(
+        description=__doc__, formatter_class=argparse.RawDescriptionHelpFormatter
+    )
     parser.add_argument("out", metavar="OUT")
     parser.add_argument("folders", metavar="FOLDER", nargs="*")
     parser.add_argument("--hyphens", metavar="FILE", help="TeX's patterns")
     parser.add_argument("--most", metavar="BYTES", type=int, default=10_000_000)
-    parser.add_argument("--beside", metavar="FILE", action="append", default=[], help="a document to be set by LaTeX, too")
+    parser.add_argument(
+        "--beside",
+        metavar="FILE",
+        action="append",
+        default=[],
+        help="a document to be set by LaTeX, too",
+    )
     words = parser.parse_args()
     os.makedirs(words.out, exist_ok=True)
     rows, began = [], time.monotonic()
@@ -129,12 +180,20 @@ def main():
         print(*FIELDS, sep="\t", file=out)
         for number, (path, reader) in enumerate(documents(words.folders, words.most)):
             rows.append(set_document(path, reader, words, number))
-            print(*(re.sub(r"\s", " ", rows[-1][it]) for it in FIELDS), sep="\t", file=out, flush=True)
-            print(f"\r{number + 1} {time.monotonic() - began:.0f} s {path[-60:]:60}", end="", file=sys.stderr)
+            print(
+                *(re.sub(r"\s", " ", rows[-1][it]) for it in FIELDS), sep="\t", file=out, flush=True
+            )
+            print(
+                f"\r{number + 1} {time.monotonic() - began:.0f} s {path[-60:]:60}",
+                end="",
+                file=sys.stderr,
+            )
     if rows:
         print(*table(rows), sep="\n")
     if words.beside:
-        print("| document | pages | overfull lines | LaTeX's pages | its overfull lines | its errors |\n|---|---|---|---|---|---|")
+        print(
+            "| document | pages | overfull lines | LaTeX's pages | its overfull lines | its errors |\n|---|---|---|---|---|---|"
+        )
         print(*(beside(path, words, number) for number, path in enumerate(words.beside)), sep="\n")
 
 

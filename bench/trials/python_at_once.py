@@ -27,10 +27,18 @@ import boxglue
 
 LINES, COPIED = 5, 20
 BAD = "hbox into 0\nrule 1pt 1pt 0pt\nend\nship 7\n"
-MAKES = ("import os, sys, threading, time, boxglue\nscript, fonts = open(sys.argv[1]).read(), {'cmr10': open(sys.argv[2], 'rb').read()}\n"
-         "inside = threading.Event()\ndef calls():\n    while True:\n        job = boxglue.Job(fonts)\n        inside.set()\n        job.commands(script)\n        job.finish()\n        job.take()\n"
-         "threading.Thread(target=calls, daemon=True).start()\ninside.wait()\ntime.sleep(float(sys.argv[3]))\n")
-ENDS = {"os._exit": ("os._exit(3)\n", 3), "sys.exit": ("sys.exit(4)\n", 4), "the end": ("", 0), "an exception": ("raise SystemError\n", 1), "SIGKILL": ("os.kill(os.getpid(), 9)\n", -9)}
+MAKES = (
+    "import os, sys, threading, time, boxglue\nscript, fonts = open(sys.argv[1]).read(), {'cmr10': open(sys.argv[2], 'rb').read()}\n"
+    "inside = threading.Event()\ndef calls():\n    while True:\n        job = boxglue.Job(fonts)\n        inside.set()\n        job.commands(script)\n        job.finish()\n        job.take()\n"
+    "threading.Thread(target=calls, daemon=True).start()\ninside.wait()\ntime.sleep(float(sys.argv[3]))\n"
+)
+ENDS = {
+    "os._exit": ("os._exit(3)\n", 3),
+    "sys.exit": ("sys.exit(4)\n", 4),
+    "the end": ("", 0),
+    "an exception": ("raise SystemError\n", 1),
+    "SIGKILL": ("os.kill(os.getpid(), 9)\n", -9),
+}
 
 
 def require(holds, why):
@@ -47,7 +55,7 @@ class Given:
         with open(metrics, "rb") as it:
             self.fonts = {"cmr10": it.read()}
         lines = self.script.splitlines(keepends=True)
-        self.pieces = ["".join(lines[at:at + LINES]) for at in range(0, len(lines), LINES)]
+        self.pieces = ["".join(lines[at : at + LINES]) for at in range(0, len(lines), LINES)]
         self.wanted = all_calls(self.script, self.fonts)
 
     @property
@@ -58,7 +66,13 @@ class Given:
 def all_calls(script, fonts):
     """What each call gives."""
     ran = boxglue.run(script, fonts)
-    return ran, boxglue.listing(ran.dvi, fonts), boxglue.marks(ran.dvi, fonts), boxglue.fonts(ran.dvi), boxglue.paint(ran.dvi, fonts, width=40, height=30)
+    return (
+        ran,
+        boxglue.listing(ran.dvi, fonts),
+        boxglue.marks(ran.dvi, fonts),
+        boxglue.fonts(ran.dvi),
+        boxglue.paint(ran.dvi, fonts, width=40, height=30),
+    )
 
 
 def rest_of(job, pieces):
@@ -86,8 +100,11 @@ def in_threads(count, call):
 def threads(given, workers, rounds):
     def calls():
         for _ in range(rounds):
-            require(all_calls(given.script, given.fonts) == given.wanted, "a thread got something else")
+            require(
+                all_calls(given.script, given.fonts) == given.wanted, "a thread got something else"
+            )
             require(run_job(given) == given.dvi, "a job of a thread made another file")
+
     in_threads(workers, calls)
     with boxglue.Job() as job:
         taken = []
@@ -97,9 +114,13 @@ def threads(given, workers, rounds):
                 job.commands("hbox into 0\nrule 1pt 1pt 0pt\nend\n")
                 job.commands("copy 0\nmeasure 0\n")
                 taken.append(job.take())
+
         in_threads(workers, share)
         found = job.commands("measure 0\n").replies[0]
-    require(found.line == workers * rounds * 5 + 1 and found.width == 65536 and not b"".join(taken), "the lines of a shared job are counted as %r" % found)
+    require(
+        found.line == workers * rounds * 5 + 1 and found.width == 65536 and not b"".join(taken),
+        "the lines of a shared job are counted as %r" % found,
+    )
 
 
 def worked(words):
@@ -112,11 +133,20 @@ def worked(words):
 
 def pools(given, workers, rounds):
     for method in ("fork", "spawn", "forkserver"):
-        with concurrent.futures.ProcessPoolExecutor(workers, multiprocessing.get_context(method)) as pool:
-            asked = [pool.submit(worked, (number, given.script, given.fonts)) for number in range(rounds)]
+        with concurrent.futures.ProcessPoolExecutor(
+            workers, multiprocessing.get_context(method)
+        ) as pool:
+            asked = [
+                pool.submit(worked, (number, given.script, given.fonts)) for number in range(rounds)
+            ]
             for number, it in enumerate(asked):
                 refusal = it.exception()
-                require((str(refusal) == "line 4: refused 21 VoidBox") if number % 7 == 3 else it.result() == (number, given.wanted), "%s: result %d is another" % (method, number))
+                require(
+                    (str(refusal) == "line 4: refused 21 VoidBox")
+                    if number % 7 == 3
+                    else it.result() == (number, given.wanted),
+                    "%s: result %d is another" % (method, number),
+                )
 
 
 def waited(child):
@@ -138,7 +168,10 @@ def parts(given, workers, rounds):
                 if not child:
                     os._exit(0 if first + rest_of(job, given.pieces[half:]) == given.dvi else 1)
                 children.append(child)
-            require(first + rest_of(job, given.pieces[half:]) == given.dvi, "the parent made another file")
+            require(
+                first + rest_of(job, given.pieces[half:]) == given.dvi,
+                "the parent made another file",
+            )
             require(not any(map(waited, children)), "a child made another file")
 
 
@@ -157,21 +190,33 @@ def ends(given, workers, rounds):
         code, status = ENDS[name]
         words = [sys.executable, "-c", MAKES + code, *sys.argv[4:6], str(chance.random() / 50)]
         ran = subprocess.run(words, capture_output=True, timeout=60)
-        require(ran.returncode == status and (name == "an exception" or not ran.stderr), "%s: status %d, %r" % (name, ran.returncode, ran.stderr[-500:]))
+        require(
+            ran.returncode == status and (name == "an exception" or not ran.stderr),
+            "%s: status %d, %r" % (name, ran.returncode, ran.stderr[-500:]),
+        )
         child = os.fork()
         if not child:
             stay(given, 0.0001 + chance.random() / 50)
         require(waited(child) == 5, "a child that a handler ended")
     for method in ("fork", "spawn"):
-        with concurrent.futures.ProcessPoolExecutor(workers, multiprocessing.get_context(method)) as pool:
+        with concurrent.futures.ProcessPoolExecutor(
+            workers, multiprocessing.get_context(method)
+        ) as pool:
             asked = [pool.submit(worked, (0, given.script, given.fonts)) for _ in range(50)]
             while not getattr(pool, "_processes", None):
                 time.sleep(0.001)
             os.kill(next(iter(pool._processes)), signal.SIGKILL)
             failed = {type(it.exception()).__name__ for it in asked} - {"NoneType"}
-            require(failed <= {"BrokenProcessPool"}, "a pool whose worker was ended raised %r" % failed)
-        with concurrent.futures.ProcessPoolExecutor(workers, multiprocessing.get_context(method)) as pool:
-            require(pool.submit(worked, (0, given.script, given.fonts)).result() == (0, given.wanted), "the next pool gave something else")
+            require(
+                failed <= {"BrokenProcessPool"}, "a pool whose worker was ended raised %r" % failed
+            )
+        with concurrent.futures.ProcessPoolExecutor(
+            workers, multiprocessing.get_context(method)
+        ) as pool:
+            require(
+                pool.submit(worked, (0, given.script, given.fonts)).result() == (0, given.wanted),
+                "the next pool gave something else",
+            )
 
 
 class Interrupt(Exception):
@@ -219,48 +264,100 @@ def interrupts(given, _workers, rounds):
             while not alarm.interrupt(lambda: taken.append(job.take())):
                 pass
             taken.append(job.take())
-        require(b"".join(taken) == given.dvi, "of the file %d bytes were taken, and not %d" % (len(b"".join(taken)), len(given.dvi)))
+        require(
+            b"".join(taken) == given.dvi,
+            "of the file %d bytes were taken, and not %d" % (len(b"".join(taken)), len(given.dvi)),
+        )
     print("%d exceptions came" % alarm.came)
 
 
 def equal_copies(one):
     """All copies of an object."""
-    yield from (pickle.loads(pickle.dumps(one, protocol)) for protocol in range(2, pickle.HIGHEST_PROTOCOL + 1))
+    yield from (
+        pickle.loads(pickle.dumps(one, protocol))
+        for protocol in range(2, pickle.HIGHEST_PROTOCOL + 1)
+    )
     yield from (copy.copy(one), copy.deepcopy(one))
 
 
 def copies(given, _workers, rounds):
     ran, _, document, fonts, bitmap = given.wanted
     refused = boxglue.run(BAD)
-    things = [ran, ran.replies, *ran.replies[:COPIED], document, document.pages, document.marks, document.marks[::3]]
-    things += [*document.pages[:COPIED], *document.marks[:COPIED], *fonts, bitmap, refused, *refused.refusals, document.units]
-    things += [getattr(boxglue, it)("x") for it in ("OutOfMemory", "NoSuchPage", "BadFontName", "NoJob")]
+    things = [
+        ran,
+        ran.replies,
+        *ran.replies[:COPIED],
+        document,
+        document.pages,
+        document.marks,
+        document.marks[::3],
+    ]
+    things += [
+        *document.pages[:COPIED],
+        *document.marks[:COPIED],
+        *fonts,
+        bitmap,
+        refused,
+        *refused.refusals,
+        document.units,
+    ]
+    things += [
+        getattr(boxglue, it)("x") for it in ("OutOfMemory", "NoSuchPage", "BadFontName", "NoJob")
+    ]
     for _ in range(max(rounds // 50, 1)):
         for one in things:
             for other in equal_copies(one):
-                is_same = str(other) == str(one) and type(other) is type(one) if isinstance(one, Exception) and not isinstance(one, boxglue.Refused) else other == one
+                is_same = (
+                    str(other) == str(one) and type(other) is type(one)
+                    if isinstance(one, Exception) and not isinstance(one, boxglue.Refused)
+                    else other == one
+                )
                 require(is_same, "%r has another copy" % (one,))
     job = boxglue.Job(given.fonts)
-    for way in (copy.copy, copy.deepcopy, *(lambda it, protocol=protocol: pickle.dumps(it, protocol) for protocol in range(pickle.HIGHEST_PROTOCOL + 1))):
+    for way in (
+        copy.copy,
+        copy.deepcopy,
+        *(
+            lambda it, protocol=protocol: pickle.dumps(it, protocol)
+            for protocol in range(pickle.HIGHEST_PROTOCOL + 1)
+        ),
+    ):
         try:
             way(job)
         except TypeError:
             continue
         require(False, "a job was copied")
-    require(rest_of(job, given.pieces) == given.dvi, "a job that refused to be copied made another file")
+    require(
+        rest_of(job, given.pieces) == given.dvi, "a job that refused to be copied made another file"
+    )
 
 
 def views(given, workers, rounds):
     def calls():
         for _ in range(rounds):
             document = boxglue.marks(given.dvi, given.fonts)
-            rows, some, one = document.marks.rows, document.pages[0].marks[1:].rows, document.marks[0]
+            rows, some, one = (
+                document.marks.rows,
+                document.pages[0].marks[1:].rows,
+                document.marks[0],
+            )
             replies = boxglue.run(given.script, given.fonts).replies[3:9].rows
             del document
             gc.collect(0)
-            require(bytes(rows) == bytes(given.wanted[2].marks.rows) and one == given.wanted[2].marks[0], "a view is another")
-            require(bytes(some) == bytes(given.wanted[2].pages[0].marks[1:].rows), "a view of a part is another")
-            require(bytes(replies) == bytes(given.wanted[0].replies[3:9].rows), "a view of replies is another")
+            require(
+                bytes(rows) == bytes(given.wanted[2].marks.rows)
+                and one == given.wanted[2].marks[0],
+                "a view is another",
+            )
+            require(
+                bytes(some) == bytes(given.wanted[2].pages[0].marks[1:].rows),
+                "a view of a part is another",
+            )
+            require(
+                bytes(replies) == bytes(given.wanted[0].replies[3:9].rows),
+                "a view of replies is another",
+            )
+
     in_threads(workers, calls)
 
 
@@ -270,7 +367,10 @@ WAYS = {it.__name__: it for it in (threads, pools, parts, ends, interrupts, copi
 def main():
     way, workers, rounds, script, metrics = sys.argv[1:]
     WAYS[way](Given(script, metrics), int(workers), int(rounds))
-    print("%s: %s workers, %s rounds, %d bytes of a file" % (way, workers, rounds, len(Given(script, metrics).dvi)))
+    print(
+        "%s: %s workers, %s rounds, %d bytes of a file"
+        % (way, workers, rounds, len(Given(script, metrics).dvi))
+    )
 
 
 if __name__ == "__main__":

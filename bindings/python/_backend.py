@@ -16,7 +16,11 @@ import tarfile
 HERE = os.path.dirname(os.path.abspath(__file__))
 # The source distribution has both beside this file, where its tests look for the examples.
 WHEEL = f"{HERE}/wheel" if os.path.exists(f"{HERE}/wheel") else f"{HERE}/../wheel"
-EXAMPLES = f"{HERE}/tests/examples" if os.path.exists(f"{HERE}/tests/examples") else f"{HERE}/../../examples"
+EXAMPLES = (
+    f"{HERE}/tests/examples"
+    if os.path.exists(f"{HERE}/tests/examples")
+    else f"{HERE}/../../examples"
+)
 # 1 January 1980, as in the wheel.
 DAY = 315_532_800
 
@@ -24,7 +28,9 @@ DAY = 315_532_800
 def _wheel_script():
     """The script bindings/wheel as a module."""
     loader = importlib.machinery.SourceFileLoader("boxglue_wheel", WHEEL)
-    module = importlib.util.module_from_spec(importlib.util.spec_from_loader("boxglue_wheel", loader))
+    module = importlib.util.module_from_spec(
+        importlib.util.spec_from_loader("boxglue_wheel", loader)
+    )
     loader.exec_module(module)
     return module
 
@@ -46,8 +52,16 @@ def _sources():
     """The files of the source distribution, by their names in it."""
     names = ["README.md", "_backend.py", "pyproject.toml"]
     for folder in ("boxglue", "tests"):
-        names += [f"{folder}/{it}" for it in sorted(os.listdir(f"{HERE}/{folder}")) if it.endswith((".py", ".txt")) or it == "py.typed"]
-    examples = {f"tests/examples/{it}": f"{EXAMPLES}/{it}" for it in sorted(os.listdir(EXAMPLES)) if it.endswith((".box", ".tfm"))}
+        names += [
+            f"{folder}/{it}"
+            for it in sorted(os.listdir(f"{HERE}/{folder}"))
+            if it.endswith((".py", ".txt")) or it == "py.typed"
+        ]
+    examples = {
+        f"tests/examples/{it}": f"{EXAMPLES}/{it}"
+        for it in sorted(os.listdir(EXAMPLES))
+        if it.endswith((".box", ".tfm"))
+    }
     return {**{it: f"{HERE}/{it}" for it in names}, **examples, "wheel": WHEEL}
 
 
@@ -56,11 +70,21 @@ def build_sdist(sdist_directory, config_settings=None):
     script = _wheel_script()
     version = (config_settings or {}).get("version") or script.package_version()
     name = f"boxglue-{version}"
-    files = {"PKG-INFO": script.metadata(version).encode(), **{it: script.read(path) for it, path in _sources().items()}}
-    with (open(f"{sdist_directory}/{name}.tar.gz", "wb") as out, gzip.GzipFile("", "wb", 9, out, DAY) as packed,
-          tarfile.open(fileobj=packed, mode="w", format=tarfile.PAX_FORMAT) as it):
+    files = {
+        "PKG-INFO": script.metadata(version).encode(),
+        **{it: script.read(path) for it, path in _sources().items()},
+    }
+    with (
+        open(f"{sdist_directory}/{name}.tar.gz", "wb") as out,
+        gzip.GzipFile("", "wb", 9, out, DAY) as packed,
+        tarfile.open(fileobj=packed, mode="w", format=tarfile.PAX_FORMAT) as it,
+    ):
         for path, data in files.items():
             entry = tarfile.TarInfo(f"{name}/{path}")
-            entry.size, entry.mtime, entry.mode = len(data), DAY, 0o755 if path == "wheel" else 0o644
+            entry.size, entry.mtime, entry.mode = (
+                len(data),
+                DAY,
+                0o755 if path == "wheel" else 0o644,
+            )
             it.addfile(entry, io.BytesIO(data))
     return f"{name}.tar.gz"

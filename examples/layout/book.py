@@ -40,7 +40,9 @@ class Book:
     def line(self, left, right):
         """A line with a text at each end."""
         with self.job.hbox(to=WIDTH):
-            self.job.rule(*STRUT), self.job.text(left), self.job.glue(0, FILL), self.job.text(str(right))
+            self.job.rule(*STRUT), self.job.text(left), self.job.glue(0, FILL), self.job.text(
+                str(right)
+            )
 
     def finish(self):
         """Ends a page: its head, its rows, and its footnotes at its foot."""
@@ -49,7 +51,9 @@ class Book:
             self.line(self.title, self.page)
             self.job.glue(LINE), self.job.unvbox(PAGE), self.job.glue(0, FILL)
             if self.has_notes:
-                self.job.rule(WIDTH // 4, pt("0.4"), 0), self.job.glue(pt("3.6")), self.job.unvbox(FOOT)
+                self.job.rule(WIDTH // 4, pt("0.4"), 0), self.job.glue(pt("3.6")), self.job.unvbox(
+                    FOOT
+                )
         self.job.count(0, self.page)
         (self.job.ship if self.ships else self.job.void)(FINISHED)
         self.empty()
@@ -74,7 +78,9 @@ class Book:
         """Sets a footnote. Returns its number."""
         number = len(self.note_sizes) + 1
         with self.job.vbox(into=NOTE + number) as box, self.job.par():
-            self.job.rule(*NOTE_STRUT), self.job.text(f"({number}) {text}"), self.job.rule(*NOTE_STRUT)
+            self.job.rule(*NOTE_STRUT), self.job.text(f"({number}) {text}"), self.job.rule(
+                *NOTE_STRUT
+            )
         self.note_sizes.append(box.height + box.depth)
         return number
 

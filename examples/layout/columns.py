@@ -11,8 +11,12 @@ WIDTH, GAP, COLUMNS, LINE, FILL = pt(320), pt(16), 2, pt(12), (1, "fil")
 # The registers of the text, and of the columns from the last one up.
 TEXT, REST, COLUMN = 1, 2, 10
 STRUT = (0, pt("8.5"), pt("3.5"))
-TABLE = [["box", "what it is", "how it stretches"], ["hbox", "a line of boxes and glue", "to its width"], ["vbox", "a list of lines", "to its height"],
-         ["vtop", "the same on its first baseline", "to its height"]]
+TABLE = [
+    ["box", "what it is", "how it stretches"],
+    ["hbox", "a line of boxes and glue", "to its width"],
+    ["vbox", "a list of lines", "to its height"],
+    ["vtop", "the same on its first baseline", "to its height"],
+]
 STORY = """Columns are balanced where the last is as high as the first, or as nearly as the lines allow. Nobody can say beforehand how high that is, since a line belongs to
 one column as a whole. So the height is asked for: the list is split at a height, and if something is left after the last column, it is split again, a little higher. The copy
 of a list costs nothing that a reader would see, and the answers of the splits tell all that has to be known."""

@@ -23,9 +23,18 @@ class Patterns:
     def __init__(self, path):
         with open(path, encoding="utf-8") as it:
             text = re.sub("%.*", "", it.read())
-        groups = {name: words.split() for name, words in re.findall(r"\\(patterns|hyphenation)\s*{(.*?)}", text, re.S)}
-        self.values = {re.sub(r"\d", "", it): [int(n or 0) for n in re.split(r"\D", it)] for it in groups["patterns"]}
-        self.exceptions = {it.replace("-", ""): [at.start() - n for n, at in enumerate(re.finditer("-", it))] for it in groups.get("hyphenation", [])}
+        groups = {
+            name: words.split()
+            for name, words in re.findall(r"\\(patterns|hyphenation)\s*{(.*?)}", text, re.S)
+        }
+        self.values = {
+            re.sub(r"\d", "", it): [int(n or 0) for n in re.split(r"\D", it)]
+            for it in groups["patterns"]
+        }
+        self.exceptions = {
+            it.replace("-", ""): [at.start() - n for n, at in enumerate(re.finditer("-", it))]
+            for it in groups.get("hyphenation", [])
+        }
 
     def places(self, word):
         """How many letters stand before each place of a word."""
@@ -55,11 +64,27 @@ class Hyphens:
         for place in self.patterns.places(letters):
             ends, more = [0, *kerns, place + len(before), len(word)], {}
             for at in ends[1:-1]:
-                joined = {self.width(word[a:b]) - self.width(word[a:at]) - self.width(word[at:b]) for a in ends for b in ends if a < at < b}
-                more[at] = {self.width(word[a:at] + "-") - self.width(word[a:at]) for a in ends if a < at}, joined
-            kerns = more if all(len(values) == 1 for both in more.values() for values in both) else kerns
+                joined = {
+                    self.width(word[a:b]) - self.width(word[a:at]) - self.width(word[at:b])
+                    for a in ends
+                    for b in ends
+                    if a < at < b
+                }
+                more[at] = {
+                    self.width(word[a:at] + "-") - self.width(word[a:at]) for a in ends if a < at
+                }, joined
+            kerns = (
+                more
+                if all(len(values) == 1 for both in more.values() for values in both)
+                else kerns
+            )
         for at, ((hyphen,), (joined,)) in kerns.items():
-            yield at, (True, f"\nkern {hyphen}sp\npenalty 50\nkern {joined - hyphen}sp", "", "-" + END.format(""))
+            yield at, (
+                True,
+                f"\nkern {hyphen}sp\npenalty 50\nkern {joined - hyphen}sp",
+                "",
+                "-" + END.format(""),
+            )
 
     def after_hyphen(self, hyphen, following):
         """The gap after a hyphen of the text. A kern after it stays at the beginning of a line, as in TeX, so it is a rule."""
@@ -70,13 +95,21 @@ class Hyphens:
     def discretionary(self, before, after, unbroken):
         a, b, n = map(self.width, (before, after, unbroken))
         trial = f"\nkern {a}sp\npenalty 50\nkern {n - a - b}sp\nrule {b}sp 0pt 0pt"
-        return False, trial, f"\ntext {unbroken}\ntext ", f"\ntext {before}{END.format('')}{after}\ntext "
+        return (
+            False,
+            trial,
+            f"\ntext {unbroken}\ntext ",
+            f"\ntext {before}{END.format('')}{after}\ntext ",
+        )
 
     def word(self, word, is_first):
         """The texts of a word, each with the gap after it."""
         *found, last = re.split("({.*?}|-+(?=[^-{]))", word)
         for text, mark, following in zip(found[::2], found[1::2], [*found[2::2], last]):
-            yield (text, self.discretionary(*mark[1:-1].split("|"))) if mark[0] == "{" else (text + mark, self.after_hyphen(mark, following[:1]))
+            yield (text, self.discretionary(*mark[1:-1].split("|"))) if mark[0] == "{" else (
+                text + mark,
+                self.after_hyphen(mark, following[:1]),
+            )
         start = 0
         for at, gap in () if is_first or found or "-" in word else self.automatic(word):
             yield last[start:at], gap
@@ -85,33 +118,76 @@ class Hyphens:
 
     def trial(self, its, pretolerance):
         """Sets a paragraph for its breaks. Returns the answer, and the gaps within words that are taken."""
-        commands = "\n".join(f"text {text}{gap[1]}\nrule 0pt 0pt {MARK + number}sp" for number, (text, gap) in enumerate(its, 1)).split("\n")
-        *_, answer, _ = self.session.ask(f"set pretolerance {pretolerance}", f"vbox into {SCRATCH}", "par", *commands[:-1], "end", "end")
+        commands = "\n".join(
+            f"text {text}{gap[1]}\nrule 0pt 0pt {MARK + number}sp"
+            for number, (text, gap) in enumerate(its, 1)
+        ).split("\n")
+        *_, answer, _ = self.session.ask(
+            f"set pretolerance {pretolerance}",
+            f"vbox into {SCRATCH}",
+            "par",
+            *commands[:-1],
+            "end",
+            "end",
+        )
         lines = self.session.ask(*[f"vsplit {SCRATCH} to 0pt into {LINE}"] * int(answer[2]))
-        return answer, {at for it in lines[:-1] if its[at := max(scaled(it[3]) - MARK, 0)][1] is not SPACE}
+        return answer, {
+            at for it in lines[:-1] if its[at := max(scaled(it[3]) - MARK, 0)][1] is not SPACE
+        }
 
     def paragraph(self, text, is_after_glue=False):
         """Returns the answer to the trial that counts, and the commands of the paragraph for the list that is open."""
-        its = [it for n, word in enumerate(text.split()) for it in self.word(word, n == 0 and not is_after_glue)]
+        its = [
+            it
+            for n, word in enumerate(text.split())
+            for it in self.word(word, n == 0 and not is_after_glue)
+        ]
         counted, pretolerance = [], 100
         for text, gap in its:  # joined where the patterns found a gap
-            counted.append((counted.pop()[0] + text if counted and counted[-1][1][0] else text, gap))
+            counted.append(
+                (counted.pop()[0] + text if counted and counted[-1][1][0] else text, gap)
+            )
         answer, taken = self.trial(counted, pretolerance)
         if answer[4] != "1" and len(counted) < len(its):
             counted, pretolerance = its, -1
             answer, taken = self.trial(counted, pretolerance)
         lines = "".join(text + gap[3 if n in taken else 2] for n, (text, gap) in enumerate(counted))
-        return answer, [f"set pretolerance {pretolerance}", "par", *f"text {lines.rstrip()}".split("\n"), "end", "set pretolerance 100"]
+        return answer, [
+            f"set pretolerance {pretolerance}",
+            "par",
+            *f"text {lines.rstrip()}".split("\n"),
+            "end",
+            "set pretolerance 100",
+        ]
 
 
 def main(out, font, path):
     session = Session(out, [font])
     hyphens = Hyphens(session, Patterns(path))
-    session.ask(f"font 0 {font.split('=')[0]}", "use 0", f"set hsize {WIDTH}pt", "set tolerance 400", f"vbox into {PAGE}")
+    session.ask(
+        f"font 0 {font.split('=')[0]}",
+        "use 0",
+        f"set hsize {WIDTH}pt",
+        "set tolerance 400",
+        f"vbox into {PAGE}",
+    )
     for text in sys.stdin:
         answer, commands = hyphens.paragraph(text)
         print(*answer)
-        session.ask("hbox", "vtop", "par", f"text {text.strip()}", "end", "end", "kern 20pt", "vtop", *commands, "end", "end", "glue 12pt")
+        session.ask(
+            "hbox",
+            "vtop",
+            "par",
+            f"text {text.strip()}",
+            "end",
+            "end",
+            "kern 20pt",
+            "vtop",
+            *commands,
+            "end",
+            "end",
+            "glue 12pt",
+        )
     session.ask("end", f"ship {PAGE}")
     return session.end()
 

@@ -38,7 +38,9 @@ def centred(job):
     """The same with glue at both ends of a line. It wants a parfillskip of 0pt. An empty box keeps what follows it at the beginning of a line."""
     job.hbox().end(), job.glue(0, STRETCH)
     for _ in gaps(job):
-        job.penalty(NEVER), job.glue(0, STRETCH), job.penalty(0), job.glue(SPACE, -2 * STRETCH), job.hbox().end(), job.penalty(NEVER), job.glue(0, STRETCH)
+        job.penalty(NEVER), job.glue(0, STRETCH), job.penalty(0), job.glue(
+            SPACE, -2 * STRETCH
+        ), job.hbox().end(), job.penalty(NEVER), job.glue(0, STRETCH)
     job.penalty(NEVER), job.glue(0, STRETCH), job.hbox().end()
 
 
@@ -46,7 +48,9 @@ def indented(job, first, others):
     """Lines that begin with a kern, the first one with a kern of its own. They may be cut into columns and pages as plain ones."""
     job.hbox().end(), job.kern(first)
     for _ in gaps(job):
-        job.glue(SPACE, pt("1.66666"), pt("1.11111")), job.kern(-others), job.hbox().end(), job.kern(others)
+        job.glue(SPACE, pt("1.66666"), pt("1.11111")), job.kern(
+            -others
+        ), job.hbox().end(), job.kern(others)
 
 
 def heading(job, text):
@@ -76,7 +80,13 @@ def frame(job, width, height):
 
 def beside(job, left, lines=4, size=pt(50), gap=pt(8)):
     """A picture beside the first lines of a paragraph, which are shorter: they are cut off. With the picture they are one hbox, 3pt deeper than the last baseline in it."""
-    job.set(hsize=WIDTH, parfillskip=Glue(0, FILL), firstlines=lines, firstsize=WIDTH - size - gap, splittopskip=LINE - pt(3))
+    job.set(
+        hsize=WIDTH,
+        parfillskip=Glue(0, FILL),
+        firstlines=lines,
+        firstsize=WIDTH - size - gap,
+        splittopskip=LINE - pt(3),
+    )
     with job.vbox(into=0), job.par():
         job.text(" ".join(TEXT.split()))
     job.set(firstlines=0), job.vsplit(0, to=LINE * lines - pt(4), into=1)

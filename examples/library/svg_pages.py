@@ -14,7 +14,9 @@ import boxglue  # noqa: E402 (it is in no folder of Python's)
 # A page of DVI has its origin an inch from the left and the top of the paper. Sizes are in TeX's points, 72.27 to an inch.
 INCH, PAPER = 72.27, (614.3, 794.97)
 BOX = '<rect x="{x:.3f}" y="{y:.3f}" width="{width:.3f}" height="{height:.3f}" {paint}/>'
-LETTER = '<text x="{x:.3f}" y="{y:.3f}" font-size="{size:.3f}" textLength="{width:.3f}">{letter}</text>'
+LETTER = (
+    '<text x="{x:.3f}" y="{y:.3f}" font-size="{size:.3f}" textLength="{width:.3f}">{letter}</text>'
+)
 
 
 class Drawing:
@@ -31,7 +33,13 @@ class Drawing:
     def rectangle(self, mark, height, paint):
         """A rectangle that stands on the place of a mark."""
         place = self.place(mark)
-        return BOX.format(x=place["x"], y=place["y"] - height, width=mark.width * self.unit, height=height, paint=paint)
+        return BOX.format(
+            x=place["x"],
+            y=place["y"] - height,
+            width=mark.width * self.unit,
+            height=height,
+            paint=paint,
+        )
 
     def shapes(self, mark):
         """The shapes of a mark. A special has none."""
@@ -39,14 +47,21 @@ class Drawing:
             yield self.rectangle(mark, mark.height * self.unit, "")
         elif isinstance(mark, boxglue.Glyph):
             size = self.sizes[mark.font] * self.unit
-            yield self.rectangle(mark, .43 * size, 'fill="none" stroke="#bbb" stroke-width="0.2"')
+            yield self.rectangle(mark, 0.43 * size, 'fill="none" stroke="#bbb" stroke-width="0.2"')
             if 33 <= mark.code < 127:
-                yield LETTER.format(**self.place(mark), size=size, width=mark.width * self.unit, letter=escape(chr(mark.code)))
+                yield LETTER.format(
+                    **self.place(mark),
+                    size=size,
+                    width=mark.width * self.unit,
+                    letter=escape(chr(mark.code)),
+                )
 
     def page(self, page):
         """A page as SVG."""
         shapes = "\n".join(it for mark in page.marks for it in self.shapes(mark))
-        return '<svg xmlns="http://www.w3.org/2000/svg" width="{0}pt" height="{1}pt" viewBox="0 0 {0} {1}">\n{2}\n</svg>\n'.format(*PAPER, shapes)
+        return '<svg xmlns="http://www.w3.org/2000/svg" width="{0}pt" height="{1}pt" viewBox="0 0 {0} {1}">\n{2}\n</svg>\n'.format(
+            *PAPER, shapes
+        )
 
 
 def main(dvi_path, out, *given):

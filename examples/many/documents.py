@@ -14,6 +14,7 @@ VOID = 500
 @dataclass(frozen=True)
 class Outcome:
     """What came of a document: the bytes of its DVI file, or the line of its first refusal."""
+
     number: int
     dvi: Optional[bytes]
     refusal: Optional[str]
@@ -22,7 +23,17 @@ class Outcome:
 def script(number: int) -> str:
     """The script of a document: a paragraph whose words depend on the number, on a page that the number counts."""
     text = " ".join(WORDS[(number * step + step) % len(WORDS)] for step in range(1, 40))
-    page = ["font 0 cmtt10", "use 0", f"set hsize {100 + number % 50}pt", "set tolerance 10000", "vbox into 0", "par", f"text {text}", "end", "end"]
+    page = [
+        "font 0 cmtt10",
+        "use 0",
+        f"set hsize {100 + number % 50}pt",
+        "set tolerance 10000",
+        "vbox into 0",
+        "par",
+        f"text {text}",
+        "end",
+        "end",
+    ]
     shipped = 1 if number == VOID else 0
     return "\n".join([*page, f"count 0 {number}", f"ship {shipped}", ""])
 

@@ -30,7 +30,9 @@ def one(count: int, workers: int, fonts: Mapping[str, bytes]) -> Iterator[Outcom
 def pool(count: int, workers: int, fonts: Mapping[str, bytes]) -> Iterator[Outcome]:
     """The documents as they are ready, from a pool of processes."""
     with ProcessPoolExecutor(workers, mp_context=multiprocessing.get_context("spawn")) as executor:
-        for done in as_completed([executor.submit(typeset, number, fonts) for number in range(count)]):
+        for done in as_completed(
+            [executor.submit(typeset, number, fonts) for number in range(count)]
+        ):
             yield done.result()
 
 
@@ -38,7 +40,14 @@ def dask(count: int, workers: int, fonts: Mapping[str, bytes]) -> Iterator[Outco
     """The documents as they are ready, from a cluster of processes on this machine, without its dashboard."""
     from distributed import Client, LocalCluster
     from distributed import as_completed as as_ready
-    cluster = LocalCluster(n_workers=workers, threads_per_worker=1, processes=True, host="127.0.0.1", dashboard_address=None)
+
+    cluster = LocalCluster(
+        n_workers=workers,
+        threads_per_worker=1,
+        processes=True,
+        host="127.0.0.1",
+        dashboard_address=None,
+    )
     try:
         client = Client(cluster)
         try:
@@ -67,14 +76,22 @@ def main() -> int:
     """Makes the documents."""
     parser = argparse.ArgumentParser(description=(__doc__ or "").split("\n")[0])
     parser.add_argument("engine", choices=sorted(ENGINES))
-    parser.add_argument("metrics", type=Path, help="the metric file of the font cmtt10, or the one that examples/plain-metrics makes")
-    parser.add_argument("out", type=Path, help="the folder of the files; it is made where it is not there")
+    parser.add_argument(
+        "metrics",
+        type=Path,
+        help="the metric file of the font cmtt10, or the one that examples/plain-metrics makes",
+    )
+    parser.add_argument(
+        "out", type=Path, help="the folder of the files; it is made where it is not there"
+    )
     parser.add_argument("--count", type=int, default=1000)
     parser.add_argument("--workers", type=int, default=2)
     words = parser.parse_args()
     words.out.mkdir(parents=True, exist_ok=True)
     refused = done = 0
-    for outcome in ENGINES[words.engine](words.count, words.workers, {"cmtt10": words.metrics.read_bytes()}):
+    for outcome in ENGINES[words.engine](
+        words.count, words.workers, {"cmtt10": words.metrics.read_bytes()}
+    ):
         keep(outcome, words.out)
         done, refused = done + 1, refused + (outcome.dvi is None)
         if done % 100 == 0 or done == words.count:

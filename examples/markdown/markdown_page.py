@@ -15,13 +15,21 @@ import boxglue  # noqa: E402 (it is in no folder of Python's)
 from boxglue import OT1, pt  # noqa: E402
 
 TEXT, BOLD, ITALIC, CODE = FACES = "text", "bold", "italic", "code"
-SIZES = {0: (pt(10), pt(12)), 1: (pt("17.28"), pt(22)), 2: (pt(12), pt(15)), 3: (pt(10), pt(12))}  # of the font and of a line, by the level of a heading
+SIZES = {
+    0: (pt(10), pt(12)),
+    1: (pt("17.28"), pt(22)),
+    2: (pt(12), pt(15)),
+    3: (pt(10), pt(12)),
+}  # of the font and of a line, by the level of a heading
 WIDTH, HEIGHT, INDENT, LABEL_GAP = pt(300), pt(500), pt(20), pt(5)
 TYPEWRITER = {chr(code): code for code in range(33, 127)}  # the encoding of cmtt10
 BLOCK_GAP, ITEM_GAP, HEADING_GAP = (pt(6), pt(2)), (pt(2), pt(1)), (pt(12), pt(4), pt(2))
 PIECES = re.compile(r"\\([^\w\s])|(\*\*)|([*_])|`([^`]*)`|([^\\*_`]+|.)")
-LINES = re.compile(r"(?P<level>#{1,3}) +(?P<title>.*?) *#*|(?P<rule> *([-*_]) *(?:\4 *){2,})|(?P<depth> *)(?:[-*+]|(?P<number>\d+)[.)]) +(?P<item>.*)")
+LINES = re.compile(
+    r"(?P<level>#{1,3}) +(?P<title>.*?) *#*|(?P<rule> *([-*_]) *(?:\4 *){2,})|(?P<depth> *)(?:[-*+]|(?P<number>\d+)[.)]) +(?P<item>.*)"
+)
 Block = namedtuple("Block", "kind text level label", defaults=("", 0, ""))
+
 
 def read_blocks(text):
     """The blocks of a text: headings (of a level), paragraphs, rules, and items of lists (with a label, at a depth)."""
@@ -29,9 +37,20 @@ def read_blocks(text):
     for line in text.splitlines():
         begun = LINES.fullmatch(line)
         if begun and (begun["level"] or begun["rule"]):
-            blocks.append(Block("heading", begun["title"], len(begun["level"])) if begun["level"] else Block("rule"))
+            blocks.append(
+                Block("heading", begun["title"], len(begun["level"]))
+                if begun["level"]
+                else Block("rule")
+            )
         elif begun:
-            blocks.append(Block("item", begun["item"], len(begun["depth"]) // 2, f"{begun['number']}." if begun["number"] else ""))
+            blocks.append(
+                Block(
+                    "item",
+                    begun["item"],
+                    len(begun["depth"]) // 2,
+                    f"{begun['number']}." if begun["number"] else "",
+                )
+            )
         elif line.strip() and goes_on:
             blocks[-1] = blocks[-1]._replace(text=f"{blocks[-1].text} {line.strip()}")
         elif line.strip():
@@ -54,21 +73,32 @@ class Galley:
 
     def __init__(self, job, names):
         self.job, self.pages, self.missing, self.texts = job, 0, 0, []
-        self.fonts = {(face, level): job.load(name, at=size) for face, name in names.items() for level, (size, _) in SIZES.items()}
+        self.fonts = {
+            (face, level): job.load(name, at=size)
+            for face, name in names.items()
+            for level, (size, _) in SIZES.items()
+        }
 
     def text(self, it, text, level=0, face=TEXT):
         """A text in a list. What a font lacks is a question mark."""
         for its, piece in spans(text, face):
             it.use(self.fonts[its, level])
             encoding = TYPEWRITER if its == CODE else OT1
-            self.texts.append(it.text("".join(one if one == " " or one in encoding else "?" for one in piece), encoding=encoding))
+            self.texts.append(
+                it.text(
+                    "".join(one if one == " " or one in encoding else "?" for one in piece),
+                    encoding=encoding,
+                )
+            )
 
     def paragraph(self, it, text, width, level=0, face=TEXT):
         """A paragraph of this width, with struts: lines are as far apart between two blocks as in one."""
         line = SIZES[level][1]
         it.set(hsize=width, baselineskip=line)
         with it.par():
-            it.rule(0, line * 7 // 10, line * 3 // 10), self.text(it, text, level, face), it.rule(0, line * 7 // 10, line * 3 // 10)
+            it.rule(0, line * 7 // 10, line * 3 // 10), self.text(it, text, level, face), it.rule(
+                0, line * 7 // 10, line * 3 // 10
+            )
 
     def item(self, it, block, left):
         """An item: its label in a box that ends at the indent, and its text in a vtop, so that their first baselines are one."""
@@ -85,13 +115,23 @@ class Galley:
         with self.job.batch() as it, it.vbox(into=0) as box:
             it.unvbox(0)
             if before and before.kind != "heading":
-                it.glue(*(HEADING_GAP if block.kind == "heading" else ITEM_GAP if block.kind == before.kind == "item" else BLOCK_GAP))
+                it.glue(
+                    *(
+                        HEADING_GAP
+                        if block.kind == "heading"
+                        else ITEM_GAP
+                        if block.kind == before.kind == "item"
+                        else BLOCK_GAP
+                    )
+                )
             if block.kind == "rule":
                 it.rule(None, pt("0.4"), 0)
             elif block.kind == "item":
                 self.item(it, block, indent * (block.level + 1))
             elif block.kind == "heading":
-                self.paragraph(it, block.text, WIDTH, block.level, BOLD), it.penalty(10_000), it.glue(pt(4))
+                self.paragraph(it, block.text, WIDTH, block.level, BOLD), it.penalty(
+                    10_000
+                ), it.glue(pt(4))
             else:
                 self.paragraph(it, block.text, WIDTH)
         self.missing, self.texts = self.missing + sum(text.reply.missing for text in self.texts), []
@@ -133,7 +173,11 @@ def main(words):
 
 
 if __name__ == "__main__":
-    parser = argparse.ArgumentParser(description=__doc__, formatter_class=argparse.RawDescriptionHelpFormatter)
+    parser = argparse.ArgumentParser(
+        description=__doc__, formatter_class=argparse.RawDescriptionHelpFormatter
+    )
     for each in ("input", "output", *(f"--{face}" for face in FACES)):
-        parser.add_argument(each, **({"metavar": "TFM", "required": True} if each[0] == "-" else {}))
+        parser.add_argument(
+            each, **({"metavar": "TFM", "required": True} if each[0] == "-" else {})
+        )
     main(parser.parse_args())

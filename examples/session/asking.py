@@ -16,11 +16,20 @@ class Session:
     """A run of `boxglue session` with these metric files, each given as NAME=PATH."""
 
     def __init__(self, out, fonts):
-        self.run = subprocess.Popen(["boxglue", "session", out, *fonts], stdin=subprocess.PIPE, stdout=subprocess.PIPE, text=True)
+        self.run = subprocess.Popen(
+            ["boxglue", "session", out, *fonts],
+            stdin=subprocess.PIPE,
+            stdout=subprocess.PIPE,
+            text=True,
+        )
 
     def ask(self, *commands):
         """Gives commands. Returns the words of each answer, without its number."""
-        return [it for at in range(0, len(commands), MOST) for it in self.ask_at_once(commands[at:at + MOST])]
+        return [
+            it
+            for at in range(0, len(commands), MOST)
+            for it in self.ask_at_once(commands[at : at + MOST])
+        ]
 
     def ask_at_once(self, commands):
         """Gives commands, and reads their answers then."""

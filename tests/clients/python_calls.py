@@ -41,12 +41,20 @@ def run_pieces(script, fonts, most):
             dvi.append(job.take())
         answers.append(job.finish())
         dvi.append(job.take())
-    return int(not all(it.accepted for it in answers)), "".join(it.answers_text for it in answers), b"".join(dvi)
+    return (
+        int(not all(it.accepted for it in answers)),
+        "".join(it.answers_text for it in answers),
+        b"".join(dvi),
+    )
 
 
 def fault_line(fault):
     """The status and the line of a file's fault, which has a place, if there is one."""
-    return (1, f"refused {fault.number} {fault.name} {fault.place} {fault.cause}\n", b"") if fault else (0, "", b"")
+    return (
+        (1, f"refused {fault.number} {fault.name} {fault.place} {fault.cause}\n", b"")
+        if fault
+        else (0, "", b"")
+    )
 
 
 def answer(call, words):
@@ -60,13 +68,25 @@ def answer(call, words):
         ran = boxglue.run(data, fonts)
         return int(not ran.accepted), ran.answers_text, ran.dvi
     if call == "fonts":
-        return 0, "".join(f"{it.number} {it.size} {it.name} {it.design_size} {it.check_sum}\n" for it in boxglue.fonts(data)), b""
+        return (
+            0,
+            "".join(
+                f"{it.number} {it.size} {it.name} {it.design_size} {it.check_sum}\n"
+                for it in boxglue.fonts(data)
+            ),
+            b"",
+        )
     if call == "check":
         return fault_line(boxglue.check(data, fonts))
     if call == "marks":
         from tests.samples import listing_of  # beside the package, not this folder
+
         return 0, listing_of(boxglue.marks(data, fonts)), b""
-    return 0, boxglue.listing(data, fonts) if call == "list" else boxglue.paint(data, fonts, **sheet).pbm, b""
+    return (
+        0,
+        boxglue.listing(data, fonts) if call == "list" else boxglue.paint(data, fonts, **sheet).pbm,
+        b"",
+    )
 
 
 def main(call, *words):
@@ -75,7 +95,9 @@ def main(call, *words):
         status, text, dvi = answer(call, [*words])
     except boxglue.Refused as refused:
         status, text, dvi = 1, f"{refused}\n", b""
-    sys.stdout.buffer.write(b"%d %d %d\n" % (status, len(text), len(dvi)) + text.encode("ascii") + dvi)
+    sys.stdout.buffer.write(
+        b"%d %d %d\n" % (status, len(text), len(dvi)) + text.encode("ascii") + dvi
+    )
 
 
 if __name__ == "__main__":

@@ -7,7 +7,9 @@ import tempfile
 from common.files import content
 from common.texts import first_difference
 
-NAMES = {*"words stdin stdin-from closed-stdin closed-stdout full-stdout files made stdout stderr status".split()}
+NAMES = {
+    *"words stdin stdin-from closed-stdin closed-stdout full-stdout files made stdout stderr status".split()
+}
 LIMIT = 60
 
 
@@ -49,7 +51,11 @@ def unknown_files(case):
 
 def command(case, program):
     """The words that start the program. A shell closes the streams that are to be closed."""
-    closing = [sign for name, sign in (("closed-stdin", "<&-"), ("closed-stdout", ">&-")) if has(case, name)]
+    closing = [
+        sign
+        for name, sign in (("closed-stdin", "<&-"), ("closed-stdout", ">&-"))
+        if has(case, name)
+    ]
     shell = ["sh", "-c", f'exec "$@" {" ".join(closing)}', "sh"] if closing else []
     return [*shell, program, *words_of(case)]
 
@@ -57,13 +63,24 @@ def command(case, program):
 def run(case, program, root):
     """Runs the program on a case. Returns its status, its standard output, its standard error, and the first file of made/
     that is wrong, if one is."""
-    how = {"input": input_of(case, root), "stderr": subprocess.PIPE, "env": {"LANG": "C.UTF-8"}, "timeout": LIMIT}
-    with tempfile.TemporaryDirectory(prefix="boxglue-case-") as room, open("/dev/full", "wb") as full:
+    how = {
+        "input": input_of(case, root),
+        "stderr": subprocess.PIPE,
+        "env": {"LANG": "C.UTF-8"},
+        "timeout": LIMIT,
+    }
+    with tempfile.TemporaryDirectory(prefix="boxglue-case-") as room, open(
+        "/dev/full", "wb"
+    ) as full:
         if has(case, "files"):
             shutil.copytree(f"{case}/files", room, dirs_exist_ok=True)
         output = full if has(case, "full-stdout") else subprocess.PIPE
         ran = subprocess.run(command(case, program), cwd=room, stdout=output, **how)
-        wrong = [name for name in files_in(f"{case}/made") if read(room, name, None) != read(f"{case}/made", name)]
+        wrong = [
+            name
+            for name in files_in(f"{case}/made")
+            if read(room, name, None) != read(f"{case}/made", name)
+        ]
     status = ran.returncode if ran.returncode >= 0 else 128 - ran.returncode
     return status, ran.stdout or b"", ran.stderr, wrong[:1]
 
@@ -76,5 +93,6 @@ def differs(case, root, program):
         return f"the status is {status} and not {wanted}; standard error: {errors[:300]!r}"
     if wrong:
         return f"the file {wrong[0]} is not that of made/"
-    return (first_difference("standard output", output, read(case, "stdout"))
-            or first_difference("standard error", errors, read(case, "stderr")))
+    return first_difference("standard output", output, read(case, "stdout")) or first_difference(
+        "standard error", errors, read(case, "stderr")
+    )

@@ -15,7 +15,10 @@ from common.running import finished
 MIRROR = "http://deb.debian.org/debian"
 # A system with an older glibc, in which there is nothing but what Debian always has; and one with what programs are built with.
 OLD, TOOLS = "bullseye", "trixie"
-PACKAGES = {OLD: [], TOOLS: "gcc libc6-dev pkgconf cmake make python3 python3-pip python3-venv cargo".split()}
+PACKAGES = {
+    OLD: [],
+    TOOLS: "gcc libc6-dev pkgconf cmake make python3 python3-pip python3-venv cargo".split(),
+}
 MADE_IN, RUNS_IN = 1200, 600
 # The first words of the shell: all that it writes goes into a layer in memory.
 LAYER = """set -eu
@@ -31,14 +34,29 @@ exec chroot "$1/top" /bin/sh -euc "$4"
 
 def cache():
     """The folder of the systems that are kept."""
-    return os.path.join(os.environ.get("XDG_CACHE_HOME") or os.path.expanduser("~/.cache"), "boxglue-chroots")
+    return os.path.join(
+        os.environ.get("XDG_CACHE_HOME") or os.path.expanduser("~/.cache"), "boxglue-chroots"
+    )
 
 
 def made(suite, path):
     """Whether a system could be made."""
-    words = ["debootstrap", "--variant=minbase", *[f"--include={','.join(PACKAGES[suite])}"] * bool(PACKAGES[suite]), suite, f"{path}.new", MIRROR]
+    words = [
+        "debootstrap",
+        "--variant=minbase",
+        *[f"--include={','.join(PACKAGES[suite])}"] * bool(PACKAGES[suite]),
+        suite,
+        f"{path}.new",
+        MIRROR,
+    ]
     shutil.rmtree(f"{path}.new", ignore_errors=True)
-    ran = subprocess.run(words, stdin=subprocess.DEVNULL, stdout=subprocess.DEVNULL, stderr=subprocess.DEVNULL, timeout=MADE_IN)
+    ran = subprocess.run(
+        words,
+        stdin=subprocess.DEVNULL,
+        stdout=subprocess.DEVNULL,
+        stderr=subprocess.DEVNULL,
+        timeout=MADE_IN,
+    )
     if ran.returncode == 0:
         os.rename(f"{path}.new", path)
     return ran.returncode == 0
@@ -62,9 +80,23 @@ def run_in(suite, script, given):
     if isinstance(folder, Skipped):
         return folder
     with tempfile.TemporaryDirectory(prefix="boxglue-chroot-") as room:
-        words = [*"unshare --mount --net --pid --fork --kill-child sh -c".split(), LAYER, "sh", room, folder, given, script]
-        env = {"PATH": "/usr/local/sbin:/usr/local/bin:/usr/sbin:/usr/bin:/sbin:/bin", "HOME": "/root", "LC_ALL": "C.UTF-8"}
+        words = [
+            *"unshare --mount --net --pid --fork --kill-child sh -c".split(),
+            LAYER,
+            "sh",
+            room,
+            folder,
+            given,
+            script,
+        ]
+        env = {
+            "PATH": "/usr/local/sbin:/usr/local/bin:/usr/sbin:/usr/bin:/sbin:/bin",
+            "HOME": "/root",
+            "LC_ALL": "C.UTF-8",
+        }
         ran = finished(words, env=env, text=True, timeout=RUNS_IN)
     if ran.returncode:
-        raise AssertionError(f"in {suite}: the status is {ran.returncode}: {(ran.stderr or ran.stdout)[-400:]}")
+        raise AssertionError(
+            f"in {suite}: the status is {ran.returncode}: {(ran.stderr or ran.stdout)[-400:]}"
+        )
     return ran.stdout

@@ -35,7 +35,11 @@ A line is printed for each part: ok, FAILED or skipped, its seconds, how many of
 The last line is `N passed, M failed, K skipped`. The status is 0 where nothing failed, 1 where something did, 2 where the words are wrong."""
 NOTHING_PROVED = "Nothing is proved by these tests: only `rt ci` proves."
 LANES, ROOM = 4, 1_500_000_000
-NEEDED = {"boxglue": "a built program: --program", "rows_scripts": "a built program: --rows", "library": "a C compiler and rt on the path"}
+NEEDED = {
+    "boxglue": "a built program: --program",
+    "rows_scripts": "a built program: --rows",
+    "library": "a C compiler and rt on the path",
+}
 # A worker has ended.
 OVER = None
 
@@ -43,6 +47,7 @@ OVER = None
 @dataclass
 class Result:
     """The results of the cases of a part, with the reason for each that did not pass."""
+
     passed: int = 0
     failed: list = field(default_factory=list)
     skipped: list = field(default_factory=list)
@@ -57,19 +62,47 @@ class Result:
             self.failed.append((name, found))
 
     def __add__(self, other):
-        return Result(self.passed + other.passed, self.failed + other.failed, self.skipped + other.skipped)
+        return Result(
+            self.passed + other.passed, self.failed + other.failed, self.skipped + other.skipped
+        )
 
 
 def words_of(given):
     """Reads the command line."""
     usage = "tests/run [NAME ..] [--program PATH ..] [--rows PATH ..] [--library ARCHIVE] [--gate], tests/run --list"
-    parser = argparse.ArgumentParser(usage=usage, description=ABOUT, formatter_class=argparse.RawDescriptionHelpFormatter)
-    parser.add_argument("names", metavar="NAME", nargs="*", help="run these parts alone (--list names them)")
-    parser.add_argument("--program", metavar="PATH", nargs="+", default=[], help="run over these builds of boxglue, in place of building")
-    parser.add_argument("--rows", metavar="PATH", nargs="+", default=[], help="run rows_scripts over these builds of it, in place of building")
-    parser.add_argument("--library", metavar="ARCHIVE", help="run the tests of the library for C over this archive, in place of building it without proofs")
-    parser.add_argument("--gate", action="store_true", help="let no case be skipped but for a missing tool that docs/internal/GATE.md lists")
-    parser.add_argument("--list", action="store_true", help="print the names of the parts, and what each tests")
+    parser = argparse.ArgumentParser(
+        usage=usage, description=ABOUT, formatter_class=argparse.RawDescriptionHelpFormatter
+    )
+    parser.add_argument(
+        "names", metavar="NAME", nargs="*", help="run these parts alone (--list names them)"
+    )
+    parser.add_argument(
+        "--program",
+        metavar="PATH",
+        nargs="+",
+        default=[],
+        help="run over these builds of boxglue, in place of building",
+    )
+    parser.add_argument(
+        "--rows",
+        metavar="PATH",
+        nargs="+",
+        default=[],
+        help="run rows_scripts over these builds of it, in place of building",
+    )
+    parser.add_argument(
+        "--library",
+        metavar="ARCHIVE",
+        help="run the tests of the library for C over this archive, in place of building it without proofs",
+    )
+    parser.add_argument(
+        "--gate",
+        action="store_true",
+        help="let no case be skipped but for a missing tool that docs/internal/GATE.md lists",
+    )
+    parser.add_argument(
+        "--list", action="store_true", help="print the names of the parts, and what each tests"
+    )
     return parser, parser.parse_intermixed_args(given)
 
 
@@ -86,7 +119,13 @@ def pairs_of(part, programs, root):
     try:
         pairs = list(part.cases(programs, root))
         twice = [name for name, count in Counter(name for name, _ in pairs).items() if count > 1]
-        why = "there are no cases" if not pairs else f"two cases have one name: {twice[0]}" if twice else None
+        why = (
+            "there are no cases"
+            if not pairs
+            else f"two cases have one name: {twice[0]}"
+            if twice
+            else None
+        )
     except Exception as error:
         why = f"{type(error).__name__}: {error}"
     return [("its cases", lambda: why)] if why else pairs
@@ -96,7 +135,10 @@ def programs_of(part, built, root):
     """The programs over which a part runs. What it needs and was not given is built without proofs: the library, and the program where no program was given."""
     given, is_given = built.get(part.program, []), any(built.values())
     if part.program == "library" and not lacking():
-        return [*(given or [build_unproved(root, "library")]), *(built["boxglue"] or [build_unproved(root, "program")])]
+        return [
+            *(given or [build_unproved(root, "library")]),
+            *(built["boxglue"] or [build_unproved(root, "program")]),
+        ]
     if part.program == "boxglue" and part.needs_program and not is_given:
         return [build_unproved(root, "program")]
     return given
@@ -104,7 +146,11 @@ def programs_of(part, built, root):
 
 def pieces_of(part, pairs, built):
     """The cases of a part in pieces that run side by side: one piece if one run of `rt try` gives the results of all."""
-    return part.split(pairs) if part.split and (any(built.values()) or part.needs_program or not part.tries) else [pairs]
+    return (
+        part.split(pairs)
+        if part.split and (any(built.values()) or part.needs_program or not part.tries)
+        else [pairs]
+    )
 
 
 def run_piece(part, piece, built, root, say):
@@ -122,14 +168,25 @@ def run_piece(part, piece, built, root, say):
             say(f"{done} of {len(pairs)}: {name}")
         else:
             say(f"rt try, for {len(pairs)} cases")
-        result.add(name, why or (Skipped(f"it needs {NEEDED[part.program]}") if is_skipped else attempt(call)))
+        result.add(
+            name,
+            why or (Skipped(f"it needs {NEEDED[part.program]}") if is_skipped else attempt(call)),
+        )
     return result
 
 
 def work(parts, jobs, events, built, root):
     """What a process does: pieces of parts, each by the number of its part and its own, until there are none."""
     for at, piece in iter(jobs.get, None):
-        events.put((at, piece, run_piece(parts[at], piece, built, root, lambda what: events.put((at, piece, what)))))
+        events.put(
+            (
+                at,
+                piece,
+                run_piece(
+                    parts[at], piece, built, root, lambda what: events.put((at, piece, what))
+                ),
+            )
+        )
     events.put(OVER)
 
 
@@ -149,7 +206,9 @@ def end_part(part, result, in_gate, root, progress):
     """Prints the results of a part, and returns them. In the gate a case that is skipped for want of anything but a listed tool has failed."""
     if in_gate:
         wrong = outside_tools.others(result.skipped, root)
-        result = Result(result.passed, result.failed + wrong, [it for it in result.skipped if it not in wrong])
+        result = Result(
+            result.passed, result.failed + wrong, [it for it in result.skipped if it not in wrong]
+        )
     for line in lines_of(part, result, progress.end(part.name)):
         progress.say(line)
     return result
@@ -182,10 +241,16 @@ def run_all(parts, built, in_gate, root):
     counts = [len(pieces_of(it, pairs_of(it, [], root), built)) for it in parts]
     jobs, events = multiprocessing.Queue(), multiprocessing.SimpleQueue()
     job_count = min(lanes(), sum(counts))
-    workers = [multiprocessing.Process(target=work, args=(parts, jobs, events, built, root)) for _ in range(job_count)]
+    workers = [
+        multiprocessing.Process(target=work, args=(parts, jobs, events, built, root))
+        for _ in range(job_count)
+    ]
     for it in workers:
         it.start()
-    for job in [*((at, piece) for at, count in enumerate(counts) for piece in range(count)), *[None] * job_count]:
+    for job in [
+        *((at, piece) for at, count in enumerate(counts) for piece in range(count)),
+        *[None] * job_count,
+    ]:
         jobs.put(job)
     try:
         return heard(parts, counts, events, in_gate, root, workers)
@@ -201,7 +266,9 @@ def chosen(parser, words, root):
     parts = {it.name: it for it in all_parts(root) if it.program or not is_data}
     wrong = [it for it in words.names if it not in parts]
     if wrong:
-        parser.error(f"no part {wrong[0]}{' runs built programs' if is_data else ''}: the names are {' '.join(parts)}")
+        parser.error(
+            f"no part {wrong[0]}{' runs built programs' if is_data else ''}: the names are {' '.join(parts)}"
+        )
     return [it for name, it in parts.items() if name in words.names or not words.names]
 
 
@@ -210,21 +277,38 @@ def main(root, given):
     parser, words = words_of(given)
     parts = chosen(parser, words, root)
     if words.list:
-        print("".join(f"{it.name:21}{it.title}\n" for it in sorted(parts, key=lambda it: it.name)), end="")
+        print(
+            "".join(f"{it.name:21}{it.title}\n" for it in sorted(parts, key=lambda it: it.name)),
+            end="",
+        )
         return 0
     if words.gate and not (words.program and words.rows and words.library):
         parser.error("--gate needs --program, --rows and --library")
-    built = {"boxglue": [*map(os.path.abspath, words.program)], "rows_scripts": [*map(os.path.abspath, words.rows)]}
-    absent = [f"program {it}" for paths in built.values() for it in paths if not os.access(it, os.X_OK) or os.path.isdir(it)]
+    built = {
+        "boxglue": [*map(os.path.abspath, words.program)],
+        "rows_scripts": [*map(os.path.abspath, words.rows)],
+    }
+    absent = [
+        f"program {it}"
+        for paths in built.values()
+        for it in paths
+        if not os.access(it, os.X_OK) or os.path.isdir(it)
+    ]
     if words.library:
         built["library"] = [os.path.abspath(words.library)]
         absent += [f"archive {it}" for it in built["library"] if not os.path.isfile(it)]
     if absent:
-        print("".join(f"FAILED: no {it}\n" for it in absent) + f"0 passed, {len(absent)} failed, 0 skipped", flush=True)
+        print(
+            "".join(f"FAILED: no {it}\n" for it in absent)
+            + f"0 passed, {len(absent)} failed, 0 skipped",
+            flush=True,
+        )
         return 1
     signal.signal(signal.SIGTERM, lambda number, _: sys.exit(128 + number))
     results = run_all(parts, built, words.gate, root)
-    passed, failed, skipped = (sum(it) for it in zip(*((it.passed, len(it.failed), len(it.skipped)) for it in results)))
+    passed, failed, skipped = (
+        sum(it) for it in zip(*((it.passed, len(it.failed), len(it.skipped)) for it in results))
+    )
     if words.gate:
         print(outside_tools.note([case for it in results for case in it.skipped], root))
     print(f"{NOTHING_PROVED}\n{passed} passed, {failed} failed, {skipped} skipped", flush=True)

@@ -13,14 +13,14 @@ def lines(data):
 
 def single_bytes(data):
     """One byte a piece."""
-    return (data[at:at + 1] for at in range(len(data)))
+    return (data[at : at + 1] for at in range(len(data)))
 
 
 def uneven(data):
     """Pieces of 1 to 997 bytes, with time between them."""
     at, size = 0, 1
     while at < len(data):
-        yield data[at:at + size]
+        yield data[at : at + size]
         time.sleep(0.0005)
         at, size = at + size, size * 7 % 997 + 1
 

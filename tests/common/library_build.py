@@ -23,7 +23,11 @@ def compiler():
 
 def lacking():
     """Why nothing can be built here, or None."""
-    missing = [name for name, found in (("C compiler", compiler()), ("rt", shutil.which("rt"))) if not found]
+    missing = [
+        name
+        for name, found in (("C compiler", compiler()), ("rt", shutil.which("rt")))
+        if not found
+    ]
     return Skipped(f"no {' and no '.join(missing)}") if missing else None
 
 
@@ -48,7 +52,17 @@ def run_build(words):
 def compile_c(root, archive, sources, out, flags):
     """Compiles a program in C with the library. Returns what is wrong, or None."""
     need_compiler()
-    words = [compiler(), *"-std=c11 -O1 -g -Wall -Wextra -Werror".split(), *flags, f"-I{root}/include", "-o", out, *sources, archive, heap_archive()]
+    words = [
+        compiler(),
+        *"-std=c11 -O1 -g -Wall -Wextra -Werror".split(),
+        *flags,
+        f"-I{root}/include",
+        "-o",
+        out,
+        *sources,
+        archive,
+        heap_archive(),
+    ]
     return run_build(words)
 
 
@@ -64,6 +78,7 @@ def named_for(archive, name):
 
 def build_calls(root, archive):
     """The path of the program in C, which is built once."""
+
     def make(out):
         sources = sorted(glob.glob(f"{root}/bindings/c/*.c"))
         wrong = None
@@ -72,24 +87,37 @@ def build_calls(root, archive):
             if not wrong:
                 return None
         return f"bindings/c is not built: {wrong}"
+
     need_compiler()
     return once(named_for(archive, "library_calls"), make)
 
 
 def build_shared(root, archive):
     """The path of the shared object, which is built once."""
+
     def make(out):
         wrong = run_build([f"{root}/bindings/build", archive, out])
         return f"libboxglue.so is not built: {wrong}" if wrong else None
+
     need_compiler()
     return once(named_for(archive, "libboxglue.so"), make)
 
 
 def build_unproved(root, kind):
     """The path of the program or of the archive of the library without proofs, which is built once."""
+
     def make(out):
-        status, _, errors = run_tried([sys.executable, f"{root}/tools/unproved.py", *(["--library"] if kind == "library" else []), out], root)
+        status, _, errors = run_tried(
+            [
+                sys.executable,
+                f"{root}/tools/unproved.py",
+                *(["--library"] if kind == "library" else []),
+                out,
+            ],
+            root,
+        )
         return f"the {kind} is not built without proofs: {last_lines(errors)}" if status else None
+
     return once("libboxglue_c.a" if kind == "library" else "boxglue.unproved", make)
 
 
@@ -105,5 +133,10 @@ def rust_client(folder, crate, source):
 
 def python_words(root, archive, words):
     """The words that run Python with the binding, and their environment."""
-    env = {**os.environ, "BOXGLUE_LIBRARY": build_shared(root, archive), "PYTHONPATH": f"{root}/bindings/python", "PYTHONPYCACHEPREFIX": f"{own_folder()}/pycache"}
+    env = {
+        **os.environ,
+        "BOXGLUE_LIBRARY": build_shared(root, archive),
+        "PYTHONPATH": f"{root}/bindings/python",
+        "PYTHONPYCACHEPREFIX": f"{own_folder()}/pycache",
+    }
     return [sys.executable, *words], env

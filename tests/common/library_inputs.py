@@ -24,6 +24,7 @@ HEX_LINE = re.compile(rb"(?:[0-9a-f]{2}){1,16}")
 @dataclass(frozen=True)
 class Printed:
     """What is wanted of a call: its status, its text, and the bytes of a DVI file."""
+
     status: int
     text: bytes
     dvi: bytes = b""
@@ -32,6 +33,7 @@ class Printed:
 @dataclass(frozen=True)
 class Input:
     """A script with its fonts, and what is written for it, where a file has that."""
+
     name: str
     script: bytes
     fonts: dict = field(default_factory=dict)
@@ -42,7 +44,9 @@ def example_inputs(root):
     """The scripts of examples/, each with a metric file of plain width for its fonts."""
     for path in sorted(glob.glob(f"{root}/examples/*.box")):
         script = read(*os.path.split(path))
-        names = {words[2] for words in commands(script.decode("ascii")).values() if words[0] == "font"}
+        names = {
+            words[2] for words in commands(script.decode("ascii")).values() if words[0] == "font"
+        }
         yield Input(os.path.basename(path), script, dict.fromkeys(sorted(names), metric_file()))
 
 
@@ -72,7 +76,9 @@ def unrolled(lines):
 
 def case_script(lines):
     """The script of a case."""
-    return b"".join(it[1:] + (b"\n" if it[:1] == b"|" else b"") for it in lines if it[:1] in (b"|", b"\\"))
+    return b"".join(
+        it[1:] + (b"\n" if it[:1] == b"|" else b"") for it in lines if it[:1] in (b"|", b"\\")
+    )
 
 
 def font_files(text):
@@ -86,7 +92,11 @@ def case_wanted(block):
     *lines, accepted = block.splitlines()
     ends = next((at for at, it in enumerate(lines, 1) if it.startswith(b"end: ")), len(lines))
     digits = b"".join(it for it in lines[ends:] if HEX_LINE.fullmatch(it))
-    return Printed(int(accepted != b"accepted"), b"".join(it + b"\n" for it in lines[:ends]), bytes.fromhex(digits.decode()))
+    return Printed(
+        int(accepted != b"accepted"),
+        b"".join(it + b"\n" for it in lines[:ends]),
+        bytes.fromhex(digits.decode()),
+    )
 
 
 @functools.lru_cache(None)
@@ -94,7 +104,9 @@ def rows(root):
     """The file of cases of crates/rows_scripts: its font files, and the lines of each case by its name."""
     text = read(f"{root}/crates/rows_scripts", "stdin")
     pieces = re.split(rb"^case (.*)\n", text, flags=re.M)
-    return font_files(text), {name: unrolled(body.split(b"\n")) for name, body in zip(pieces[1::2], pieces[2::2])}
+    return font_files(text), {
+        name: unrolled(body.split(b"\n")) for name, body in zip(pieces[1::2], pieces[2::2])
+    }
 
 
 @functools.lru_cache(None)
@@ -112,7 +124,9 @@ def case_input(root, name):
 def case_inputs(root):
     """The cases of crates/rows_scripts that are run."""
     for name in CASES:
-        yield replace(case_input(root, name.encode()), wanted=case_wanted(row_answers(root)[name.encode()]))
+        yield replace(
+            case_input(root, name.encode()), wanted=case_wanted(row_answers(root)[name.encode()])
+        )
 
 
 def all_case_inputs(root):
@@ -126,7 +140,9 @@ def answers_to_each(root):
         if b"each" in body:
             found = re.split(rb"^[|\\](.*)\n", row_answers(root)[name], flags=re.M)
             causes = (re.match(rb"refused 2 BadScript 1 (\w+)\n", it) for it in found[2::2])
-            yield name.decode(), [(line, cause and cause[1]) for line, cause in zip(found[1::2], causes)]
+            yield name.decode(), [
+                (line, cause and cause[1]) for line, cause in zip(found[1::2], causes)
+            ]
 
 
 def all_inputs(root):

@@ -21,6 +21,7 @@ FEEDER = os.path.join(os.path.dirname(os.path.abspath(__file__)), "feeder.py")
 @dataclass(frozen=True)
 class Sparse:
     """A file of `size` bytes 0, which takes no space on the disk."""
+
     size: int
 
 
@@ -34,6 +35,7 @@ class Run:
     stdout   the blocks of the expected output
     made     the files that must then be in the folder, by name; None if there must be none with this name
     memory   the most bytes of addresses that the program may have; None for any number"""
+
     words: tuple = ()
     stdin: object = b""
     feed: object = None
@@ -46,12 +48,15 @@ class Run:
 
     def __post_init__(self):
         if iter(self.stdout) is self.stdout:
-            raise TypeError("stdout gives its blocks once, and a run is compared with each of the programs")
+            raise TypeError(
+                "stdout gives its blocks once, and a run is compared with each of the programs"
+            )
 
 
 @dataclass(frozen=True)
 class Work:
     """Files, and runs over them, in order, in the same folder."""
+
     files: dict
     runs: list
 
@@ -161,9 +166,17 @@ def started(program, run, folder, errors):
     if run.slowly:
         fcntl.fcntl(end, SET_PIPE_SIZE, SMALLEST_PIPE)
     try:
-        how = {"stdin": source, "stdout": end, "stderr": errors, "cwd": folder, "env": {"LANG": "C.UTF-8"}}
+        how = {
+            "stdin": source,
+            "stdout": end,
+            "stderr": errors,
+            "cwd": folder,
+            "env": {"LANG": "C.UTF-8"},
+        }
         if run.memory:
-            how["preexec_fn"] = lambda: resource.setrlimit(resource.RLIMIT_AS, (run.memory, run.memory))
+            how["preexec_fn"] = lambda: resource.setrlimit(
+                resource.RLIMIT_AS, (run.memory, run.memory)
+            )
         process = subprocess.Popen([program, *run.words], **how)
     finally:
         os.close(source)

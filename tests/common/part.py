@@ -12,6 +12,7 @@ import parts
 @dataclass(frozen=True)
 class Part:
     """A named list of cases; parts/__init__.py has the form of `cases`."""
+
     name: str
     title: str
     cases: Callable
@@ -40,11 +41,23 @@ def parts_of(package, name, root):
     if hasattr(module, "parts"):
         return module.parts(root)
     fields = ("program", "needs_program", "weight", "tries", "split")
-    said = {field: getattr(module, field.upper()) for field in fields if hasattr(module, field.upper())}
+    said = {
+        field: getattr(module, field.upper()) for field in fields if hasattr(module, field.upper())
+    }
     return [Part(name, module.TITLE, module.cases, **said)]
 
 
 def all_parts(root):
     """The parts of all modules of the packages with parts; those that begin earlier come first."""
-    found = sorted(((it.name, package) for package in (lint, models.tests, parts) for it in pkgutil.iter_modules(package.__path__)), key=lambda it: it[0])
-    return sorted((part for name, package in found for part in parts_of(package, name, root)), key=lambda it: -it.weight)
+    found = sorted(
+        (
+            (it.name, package)
+            for package in (lint, models.tests, parts)
+            for it in pkgutil.iter_modules(package.__path__)
+        ),
+        key=lambda it: it[0],
+    )
+    return sorted(
+        (part for name, package in found for part in parts_of(package, name, root)),
+        key=lambda it: -it.weight,
+    )

@@ -21,10 +21,12 @@ def compiler():
 
 def built(name):
     """The path of a library, which is built once."""
+
     def make(path):
         source = os.path.join(os.path.dirname(os.path.abspath(__file__)), f"{name}.c")
         words = [compiler(), *"-O1 -shared -fPIC -nostdlib -fuse-ld=lld -o".split(), path, source]
         finished(words, check=True)
+
     if not compiler():
         raise NO_COMPILER
     return once(f"{name}.so", make)

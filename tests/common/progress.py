@@ -50,14 +50,23 @@ class Progress:
         """What is running, as one line."""
         with self.lock:
             now = time.monotonic()
-            running = [f"{part} ({what}, {now - since:.0f} s)" for (part, _), (what, since) in self.running.items()]
+            running = [
+                f"{part} ({what}, {now - since:.0f} s)"
+                for (part, _), (what, since) in self.running.items()
+            ]
         return f"{self.done} of {self.count} parts done; running: {', '.join(running) or 'none'}"
 
     def wrong(self):
         """What has gone wrong with the processes: one has ended early, or has a case that takes too long."""
         with self.lock:
-            late = [f"no end after {LIMIT} s: {part}: {what}" for (part, _), (what, since) in self.running.items() if time.monotonic() - since > LIMIT]
-        return late + [f"a process ended with status {it.exitcode}" for it in self.workers if it.exitcode]
+            late = [
+                f"no end after {LIMIT} s: {part}: {what}"
+                for (part, _), (what, since) in self.running.items()
+                if time.monotonic() - since > LIMIT
+            ]
+        return late + [
+            f"a process ended with status {it.exitcode}" for it in self.workers if it.exitcode
+        ]
 
     def tick(self):
         """Prints the state if nothing was printed for a while. Ends all if a case hangs or a process is lost."""

@@ -46,8 +46,9 @@ def judge(case, line, errors, output):
         return f"the status is {status}; standard error: {errors[:300]!r}"
     # A last line without a line feed gets one.
     wanted += b"\n" if wanted and not wanted.endswith(b"\n") else b""
-    return (first_difference("standard output", output, wanted)
-            or first_difference("standard error", errors, case_folder.read(case, "stderr")))
+    return first_difference("standard output", output, wanted) or first_difference(
+        "standard error", errors, case_folder.read(case, "stderr")
+    )
 
 
 class Batch:
@@ -74,11 +75,17 @@ class Batch:
 
     def own_files(self, case):
         """The files of a case whose names have other bytes in other cases."""
-        return [name for name in case_folder.files_in(f"{case}/files") if case_folder.read(case, f"files/{name}") != self.files[name]]
+        return [
+            name
+            for name in case_folder.files_in(f"{case}/files")
+            if case_folder.read(case, f"files/{name}") != self.files[name]
+        ]
 
     def takes_as_input(self, case, own):
         """Whether the case has one file of its own, which standard input can be, and {} can name."""
-        name, printed = own[0].encode(), case_folder.read(case, "stdout") + case_folder.read(case, "stderr")
+        name, printed = own[0].encode(), case_folder.read(case, "stdout") + case_folder.read(
+            case, "stderr"
+        )
         is_free = not case_folder.input_of(case, self.root) and name not in printed
         return len(own) == 1 and is_free and case_folder.words_of(case).count(name) == 1
 
@@ -101,7 +108,12 @@ class Batch:
                 write(f"{to}.args", words)
         for name, content in self.files.items():
             write(f"{room}/{name}", content)
-        return [word for name in self.files for word in ("--data", f"{name}={room}/{name}")] + ["--seconds", str(LIMIT), "--cases", f"{room}/cases"]
+        return [word for name in self.files for word in ("--data", f"{name}={room}/{name}")] + [
+            "--seconds",
+            str(LIMIT),
+            "--cases",
+            f"{room}/cases",
+        ]
 
     @cached_property
     def found(self):
@@ -110,7 +122,7 @@ class Batch:
             _, output, errors = rt_try(self.root, "boxglue", self.lay_out(room))
         outputs, runs, start = blocks(output), {}, 0
         for line in LINE.finditer(errors):
-            runs[line[1].decode()] = line, errors[start:line.start()], outputs.get(line[1], b"")
+            runs[line[1].decode()] = line, errors[start : line.start()], outputs.get(line[1], b"")
             start = line.end()
         return runs, last_lines(errors)
 

@@ -11,7 +11,17 @@ from fractions import Fraction
 
 # The types of the calls in Rust can say 2,000 of them, and so can a batch in Python: those in which the end of no list is refused.
 COUNT, SAID = 2150, 2000
-UNITS = {"pt": (1, 1), "pc": (12, 1), "in": (7227, 100), "bp": (7227, 7200), "cm": (7227, 254), "mm": (7227, 2540), "dd": (1238, 1157), "cc": (14856, 1157), "sp": (1, 65536)}
+UNITS = {
+    "pt": (1, 1),
+    "pc": (12, 1),
+    "in": (7227, 100),
+    "bp": (7227, 7200),
+    "cm": (7227, 254),
+    "mm": (7227, 2540),
+    "dd": (1238, 1157),
+    "cc": (14856, 1157),
+    "sp": (1, 65536),
+}
 ORDERS = "", "fil", "fill", "filll"
 DIMENSIONS = "boxmaxdepth splitmaxdepth lineskiplimit hsize firstsize hoffset voffset".split()
 GLUES = "splittopskip baselineskip lineskip parfillskip".split()
@@ -30,14 +40,26 @@ def dimension(text):
 def glue(words):
     """The width of a glue, its stretch and its shrink, each of the two with its order."""
     parts = {"width": words[0], **dict(zip(words[1::2], words[2::2]))}
-    amounts = [(parts.get(it, "0pt"), re.search("[a-z]+$", parts.get(it, "0pt"))[0]) for it in ("plus", "minus")]
-    return [dimension(words[0]), *(it for amount, unit in amounts for it in (dimension(amount), ORDERS.index(unit) if unit in ORDERS else 0))]
+    amounts = [
+        (parts.get(it, "0pt"), re.search("[a-z]+$", parts.get(it, "0pt"))[0])
+        for it in ("plus", "minus")
+    ]
+    return [
+        dimension(words[0]),
+        *(
+            it
+            for amount, unit in amounts
+            for it in (dimension(amount), ORDERS.index(unit) if unit in ORDERS else 0)
+        ),
+    ]
 
 
 def opening(words):
     """The size of a box that is opened, and its register; a dash for what there is not."""
     given = dict(zip(words[::2], words[1::2]))
-    size = next(((it, dimension(given[it])) for it in ("to", "spread") if it in given), ("natural", 0))
+    size = next(
+        ((it, dimension(given[it])) for it in ("to", "spread") if it in given), ("natural", 0)
+    )
     return [*size, given.get("into", "-")]
 
 
@@ -54,7 +76,16 @@ def call_of(line):
     elif word == "glue":
         given = glue(words)
     elif word == "set":
-        given = [words[0], *(glue(words[1:]) if words[0] in GLUES else [dimension(words[1])] if words[0] in DIMENSIONS else [words[1]])]
+        given = [
+            words[0],
+            *(
+                glue(words[1:])
+                if words[0] in GLUES
+                else [dimension(words[1])]
+                if words[0] in DIMENSIONS
+                else [words[1]]
+            ),
+        ]
     elif word == "vsplit":
         given = [words[0], dimension(words[2]), words[4]]
     elif word in ("box", "copy"):
@@ -73,7 +104,9 @@ def scripts(root):
         del sys.path[:2]
     made = (document_of(number, b"").script for number in itertools.count())
     sizes = re.compile(r"(?m)^font .* at (\S+)$")
-    return (it for it in made if all(map(dimension, sizes.findall(it.decode("ascii")))))  # no font has the size 0
+    return (
+        it for it in made if all(map(dimension, sizes.findall(it.decode("ascii"))))
+    )  # no font has the size 0
 
 
 @functools.lru_cache(None)

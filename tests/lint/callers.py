@@ -46,6 +46,7 @@ NAMED = ["made::file::free", "made::Kind::method", "made::Other::last"]
 @dataclass(frozen=True)
 class Function:
     """An exported function that has a body: its crate, its file, its type if it is a method, and its name."""
+
     crate: str
     path: str
     type: str
@@ -95,9 +96,9 @@ def functions_of(crate, path, tokens, of_type=""):
         token, body = tokens[at], None
         if token in ("impl", "trait", "mod") and (body := opening(tokens, at)):
             end = end_of(tokens, body)
-            found = type_of(tokens[at + 1:body]) if token == "impl" else None
+            found = type_of(tokens[at + 1 : body]) if token == "impl" else None
             if found:
-                yield from functions_of(crate, path, tokens[body + 1:end - 1], found)
+                yield from functions_of(crate, path, tokens[body + 1 : end - 1], found)
         elif token == "fn" and re.match(r"\w", tokens[at + 1]):
             body = body_of(tokens, at + 1)
             end = end_of(tokens, body) if tokens[body] == "{" else body
@@ -113,7 +114,11 @@ def exported(root):
     for crate in (it for it in libraries(root) if not it.startswith(BESIDE)):
         for path in sorted(glob.glob(f"{root}/crates/{crate}/src/**/*.rt", recursive=True)):
             if "laws" not in os.path.basename(path):
-                yield from functions_of(crate, os.path.relpath(path, f"{root}/crates/{crate}/src"), tokens_of(read(path)))
+                yield from functions_of(
+                    crate,
+                    os.path.relpath(path, f"{root}/crates/{crate}/src"),
+                    tokens_of(read(path)),
+                )
 
 
 def keys_of(name):
@@ -127,7 +132,9 @@ def keys_of(name):
 def reached(root, crate):
     """The keys of all functions that a program reaches, or what is wrong with its module."""
     with tempfile.TemporaryDirectory() as folder:
-        status, _, errors = run_tried([sys.executable, f"{root}/tools/unproved.py", "--names", crate, f"{folder}/names"], root)
+        status, _, errors = run_tried(
+            [sys.executable, f"{root}/tools/unproved.py", "--names", crate, f"{folder}/names"], root
+        )
         if status:
             return f"{crate} has no module: {last_lines(errors)}"
         with open(f"{folder}/names", encoding="utf-8") as it:
@@ -141,7 +148,10 @@ def of_sources(root):
         return "; ".join(wrong)
     keys = frozenset().union(*modules)
     lost = {it.short() for it in exported(root) if it.key() not in keys}
-    wrong = {"nothing reaches": sorted(lost - {*FOR_CALLERS}), "reached or not there, but on the list:": sorted({*FOR_CALLERS} - lost)}
+    wrong = {
+        "nothing reaches": sorted(lost - {*FOR_CALLERS}),
+        "reached or not there, but on the list:": sorted({*FOR_CALLERS} - lost),
+    }
     return "; ".join(f"{what} {', '.join(names)}" for what, names in wrong.items() if names) or None
 
 
@@ -149,7 +159,11 @@ def of_made(_root):
     """How the functions of a made file are named, and what is found of a name in a module."""
     found = [it.key() for it in functions_of("made", "file.rt", tokens_of(MADE))]
     keys = keys_of("made::inner::Kind+Dimen::method::<i8>")
-    wrong = {f"the names are {found}": found != NAMED, f"the keys are {sorted(keys)}": "made::Kind::method" not in keys or "made::Other::method" in keys}
+    wrong = {
+        f"the names are {found}": found != NAMED,
+        f"the keys are {sorted(keys)}": "made::Kind::method" not in keys
+        or "made::Other::method" in keys,
+    }
     return "; ".join(it for it, is_wrong in wrong.items() if is_wrong) or None
 
 

@@ -16,7 +16,7 @@ REACHED = {
     "Fits": "Fits Within",
     "round_times": "round_times Fraction rounded nearest",
     "IsDimensionText": "IsDimensionText DimensionParts Sign LengthUnit fraction_digits parts_text sign_text fraction_text unit_text parts_value with_sign scaled_points "
-                       "of_points decimal_fraction nearest",
+    "of_points decimal_fraction nearest",
     "node_core::Rule": "Rule RuleSize Dimen",
     "Load": "Load",
     "is_discardable": "is_discardable ItemClass",
@@ -34,7 +34,11 @@ HEADLINE = """
 # Where these rules are: the crates that draw, choose registers and write, and the layout and the spellings of dvi_ops.
 WRITER = {"ship_core", "move_core", "dvi_write"}, {"Layout", "Spelling", "Runs"}
 # What only other contracts reach, by a function whose contract does.
-ELSEWHERE = {"IsStop": "break_core::active_breaks", "IsBreakList": "break_core::breaks", "IsFileIn": "tfm_core::read"}
+ELSEWHERE = {
+    "IsStop": "break_core::active_breaks",
+    "IsBreakList": "break_core::breaks",
+    "IsFileIn": "tfm_core::read",
+}
 
 
 def roots(tree):
@@ -50,7 +54,11 @@ def names_of(found):
 def reached(tree, given):
     """What is wrong with what a definition reaches."""
     found, wanted = {*names_of(tree.order(tree.by_name(given)))}, {*REACHED[given].split()}
-    return None if found == wanted else f"{given}: not by hand {sorted(found - wanted)}, by hand alone {sorted(wanted - found)}"
+    return (
+        None
+        if found == wanted
+        else f"{given}: not by hand {sorted(found - wanted)}, by hand alone {sorted(wanted - found)}"
+    )
 
 
 def believed(tree):
@@ -58,22 +66,41 @@ def believed(tree):
     found = tree.order(roots(tree))
     lost = [it for it in BELIEVED if it not in names_of(found)]
     data = [str(it) for it in found if it.module in ("Examples", "Known")]
-    bare = [str(it) for it, definition in found.items() if not it.is_type and not definition.comment]
-    return f"it lacks {lost}" if lost else f"it has test data: {data}" if data else f"no comment: {bare}" if bare else None
+    bare = [
+        str(it) for it, definition in found.items() if not it.is_type and not definition.comment
+    ]
+    return (
+        f"it lacks {lost}"
+        if lost
+        else f"it has test data: {data}"
+        if data
+        else f"no comment: {bare}"
+        if bare
+        else None
+    )
 
 
 def headline(tree):
     """What the clauses of the headline name of the writer's rules."""
     crates, modules = WRITER
     found = {given: tree.order(tree.by_name(given)) for given in HEADLINE}
-    named = [f"{given} names {it}" for given, names in found.items() for it in names if it.crate in crates or (it.crate == "dvi_ops" and it.module in modules)]
+    named = [
+        f"{given} names {it}"
+        for given, names in found.items()
+        for it in names
+        if it.crate in crates or (it.crate == "dvi_ops" and it.module in modules)
+    ]
     lost = [given for given, names in found.items() if "IsFile" not in names_of(names)]
     return "; ".join(named) or (f"without the definition of a file: {lost}" if lost else None)
 
 
 def elsewhere(tree):
     """Names that the contracts of these functions do not reach."""
-    lost = [name for name, given in ELSEWHERE.items() if name not in names_of(tree.order(tree.by_name(given)))]
+    lost = [
+        name
+        for name, given in ELSEWHERE.items()
+        if name not in names_of(tree.order(tree.by_name(given)))
+    ]
     return f"not reached: {lost}" if lost else None
 
 

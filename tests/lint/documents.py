@@ -37,17 +37,35 @@ RATIO = re.compile(r"(\d+\.\d+) of (?:TeX's|its) (time|instructions|memory)\b")
 COLUMNS = {"time": "seconds", "instructions": "instructions", "memory": "memory"}
 # The sentences of the manual page with figures: each has the units, the seconds and the megabytes of a case. A page takes what more pages of a case take more.
 ON_MANUAL = (
-    (r"\(2,000 paragraphs, ([\d,]+) words, 280 pages\) takes ([\d.]+) seconds and ([\d.]+) megabytes of memory\.", "paragraphs_200"),
-    (r"\(([\d,]+) lines that make boxes of rules\) takes ([\d.]+) seconds and ([\d.]+) megabytes\.", "short_lines_1000000"))
+    (
+        r"\(2,000 paragraphs, ([\d,]+) words, 280 pages\) takes ([\d.]+) seconds and ([\d.]+) megabytes of memory\.",
+        "paragraphs_200",
+    ),
+    (
+        r"\(([\d,]+) lines that make boxes of rules\) takes ([\d.]+) seconds and ([\d.]+) megabytes\.",
+        "short_lines_1000000",
+    ),
+)
 # A figure that was measured, with its unit, and a link to a document that has such figures.
-FIGURE, UNITS = re.compile(r"\b(\d[\d,]*(?:\.\d+)?) (s|seconds|us|ms|minutes|MB|GB|bytes|million)\b"), {"seconds": "s"}
+FIGURE, UNITS = re.compile(
+    r"\b(\d[\d,]*(?:\.\d+)?) (s|seconds|us|ms|minutes|MB|GB|bytes|million)\b"
+), {"seconds": "s"}
 SOURCE = re.compile(r"\]\(([^)#\s]*\b(?:SPEED|GATE)\.md)\)")
-PAGE_ON_MANUAL, PAGES = r"A page of one rule takes ([\d.]+) microseconds\.", ("small_pages_ship_6000", "small_pages_ship_60000")
+PAGE_ON_MANUAL, PAGES = r"A page of one rule takes ([\d.]+) microseconds\.", (
+    "small_pages_ship_6000",
+    "small_pages_ship_60000",
+)
 
 
 def documents(root):
     """The paths of the documents."""
-    return sorted({os.path.relpath(path, root) for pattern in DOCUMENTS for path in glob.glob(f"{root}/{pattern}")})
+    return sorted(
+        {
+            os.path.relpath(path, root)
+            for pattern in DOCUMENTS
+            for path in glob.glob(f"{root}/{pattern}")
+        }
+    )
 
 
 def running_text(text):
@@ -56,14 +74,18 @@ def running_text(text):
     text = re.sub(r"(?m)^(?:    .*|\||\s*\|.*|#.*|!\[.*)$", "\n\n", text)
     text = re.sub(r"(?m)^\|.*$", "\n\n", text)
     text = re.sub(r"\]\([^)]*\)", "]", text)
-    return [part for paragraph in re.split(r"\n\s*\n|^\s*- ", text, flags=re.M) for part in re.split(r"`[^`]*`", paragraph)]
+    return [
+        part
+        for paragraph in re.split(r"\n\s*\n|^\s*- ", text, flags=re.M)
+        for part in re.split(r"`[^`]*`", paragraph)
+    ]
 
 
 def runs(text):
     """The runs of ten words of a document."""
     for part in running_text(text):
         words = re.findall(r"[^\W_]+(?:['-][^\W_]+)*", part.lower())
-        yield from (" ".join(words[at:at + RUN]) for at in range(len(words) - RUN + 1))
+        yield from (" ".join(words[at : at + RUN]) for at in range(len(words) - RUN + 1))
 
 
 def said_twice(root):
@@ -83,17 +105,29 @@ def links(root):
     """Links to files that are not there, and names of documents that are neither in docs/ nor beside the text. A link gives the path of any other document."""
     wrong = []
     for path in documents(root):
-        text, folder = re.sub(r"(?ms)^```.*?^```$", "", read(f"{root}/{path}")), os.path.dirname(path)
+        text, folder = re.sub(r"(?ms)^```.*?^```$", "", read(f"{root}/{path}")), os.path.dirname(
+            path
+        )
         places = {it: (f"{folder}/{it}",) for it in re.findall(LINK, text) if "://" not in it}
-        names = {it: (f"docs/{it}", f"{folder}/{it}", it) for it in re.findall(r"(?<![\w/.])[A-Z]{2,}\.md\b", re.sub(LINK, "", text))}
-        wrong += [f"{path}: {it}" for it, paths in {**names, **places}.items() if not any(os.path.exists(os.path.normpath(f"{root}/{its}")) for its in paths)]
+        names = {
+            it: (f"docs/{it}", f"{folder}/{it}", it)
+            for it in re.findall(r"(?<![\w/.])[A-Z]{2,}\.md\b", re.sub(LINK, "", text))
+        }
+        wrong += [
+            f"{path}: {it}"
+            for it, paths in {**names, **places}.items()
+            if not any(os.path.exists(os.path.normpath(f"{root}/{its}")) for its in paths)
+        ]
     return f"no file for {', '.join(wrong)}" if wrong else None
 
 
 def slugs(text):
     """The anchors of the headings of a document, as a browser of the repository makes them."""
     headings = re.findall(r"(?m)^#+ (.*)$", re.sub(r"(?ms)^```.*?^```$", "", text))
-    return {re.sub(r"[^\w -]", "", re.sub(r"\]\([^)]*\)", "", it).lower()).strip().replace(" ", "-") for it in headings}
+    return {
+        re.sub(r"[^\w -]", "", re.sub(r"\]\([^)]*\)", "", it).lower()).strip().replace(" ", "-")
+        for it in headings
+    }
 
 
 def anchors(root):
@@ -101,7 +135,11 @@ def anchors(root):
     wrong = []
     for path in documents(root):
         for file, anchor in re.findall(r"\]\(([^)#\s]*)#([^)\s]+)\)", read(f"{root}/{path}")):
-            whole = os.path.normpath(f"{root}/{os.path.dirname(path)}/{file}") if file else f"{root}/{path}"
+            whole = (
+                os.path.normpath(f"{root}/{os.path.dirname(path)}/{file}")
+                if file
+                else f"{root}/{path}"
+            )
             if "://" not in file and os.path.exists(whole) and anchor not in slugs(read(whole)):
                 wrong.append(f"{path}: {file}#{anchor}")
     return f"no heading for {', '.join(wrong)}" if wrong else None
@@ -115,29 +153,58 @@ def page_of_crate(root, crate):
     text = read(f"{root}/{path}")
     sections = re.findall(r"(?m)^## (.*)$", text)
     proved = text.partition("\n## Proved\n")[2].partition("\n## ")[0]
-    absent = [it for it in re.findall(r"`((?:src|specs)/[\w/.]+)`", text) if not os.path.exists(f"{root}/crates/{crate}/{it}")]
-    wrong = [it for it, is_wrong in {
-        "does not begin with its name": not text.startswith(f"# `{crate}`\n"),
-        f"has the sections {sections}": [it for it in sections if it != "Calls"] != SECTIONS,
-        f"has {len(text.splitlines())} lines": len(text.splitlines()) not in LINES,
-        f"has {len(proved.split())} words on what is proved": len(proved.split()) > PROVED_WORDS,
-        f"names {', '.join(absent)}": absent}.items() if is_wrong]
+    absent = [
+        it
+        for it in re.findall(r"`((?:src|specs)/[\w/.]+)`", text)
+        if not os.path.exists(f"{root}/crates/{crate}/{it}")
+    ]
+    wrong = [
+        it
+        for it, is_wrong in {
+            "does not begin with its name": not text.startswith(f"# `{crate}`\n"),
+            f"has the sections {sections}": [it for it in sections if it != "Calls"] != SECTIONS,
+            f"has {len(text.splitlines())} lines": len(text.splitlines()) not in LINES,
+            f"has {len(proved.split())} words on what is proved": len(proved.split())
+            > PROVED_WORDS,
+            f"names {', '.join(absent)}": absent,
+        }.items()
+        if is_wrong
+    ]
     return f"{path} {', '.join(wrong)}" if wrong else None
 
 
 def crates(root):
     """What is wrong with the crates' documents."""
-    names = sorted(os.path.basename(os.path.dirname(it)) for it in glob.glob(f"{root}/crates/*/src"))
+    names = sorted(
+        os.path.basename(os.path.dirname(it)) for it in glob.glob(f"{root}/crates/*/src")
+    )
     return "; ".join(filter(None, (page_of_crate(root, it) for it in names))) or None
 
 
 def lengths(root):
     """Documents that are longer than they may be."""
     words = {path: len(read(f"{root}/{path}").split()) for path in documents(root)}
-    wrong = [f"{path} has {words[path]} words" for path, most in MOST.items() if words.get(path, 0) > most]
-    whole = sum(count for path, count in words.items() if re.fullmatch(r"docs/(?:\w+/)*\w+\.md|crates/\w+/README\.md", path))
+    wrong = [
+        f"{path} has {words[path]} words"
+        for path, most in MOST.items()
+        if words.get(path, 0) > most
+    ]
+    whole = sum(
+        count
+        for path, count in words.items()
+        if re.fullmatch(r"docs/(?:\w+/)*\w+\.md|crates/\w+/README\.md", path)
+    )
     lines = len(read(f"{root}/README.md").splitlines())
-    return "; ".join([*wrong, *([f"all have {whole} words"] if whole > MOST_OF_ALL else []), *([f"README.md has {lines} lines"] if lines > MOST_LINES else [])]) or None
+    return (
+        "; ".join(
+            [
+                *wrong,
+                *([f"all have {whole} words"] if whole > MOST_OF_ALL else []),
+                *([f"README.md has {lines} lines"] if lines > MOST_LINES else []),
+            ]
+        )
+        or None
+    )
 
 
 def hashes(root):
@@ -153,17 +220,34 @@ def speed(root):
     """What bench/ makes anew of docs/SPEED.md and its charts that is not as it stands."""
     with tempfile.TemporaryDirectory() as folder:
         shutil.copy(f"{root}/docs/SPEED.md", folder)
-        for words in (("tables.py", "--page", f"{folder}/SPEED.md"), ("charts.py", "--out", folder)):
-            ran = finished([sys.executable, "-B", f"{root}/bench/{words[0]}", *words[1:]], text=True)
+        for words in (
+            ("tables.py", "--page", f"{folder}/SPEED.md"),
+            ("charts.py", "--out", folder),
+        ):
+            ran = finished(
+                [sys.executable, "-B", f"{root}/bench/{words[0]}", *words[1:]], text=True
+            )
             if ran.returncode:
                 return f"bench/{words[0]}: {ran.stderr}"
-        other = [it for it in sorted(os.listdir(folder)) if read(f"{folder}/{it}") != read(f"{root}/docs/{it}")]
-    return f"another run of bench/tables.py and bench/charts.py gives another {', '.join(other)}" if other else None
+        other = [
+            it
+            for it in sorted(os.listdir(folder))
+            if read(f"{folder}/{it}") != read(f"{root}/docs/{it}")
+        ]
+    return (
+        f"another run of bench/tables.py and bench/charts.py gives another {', '.join(other)}"
+        if other
+        else None
+    )
 
 
 def measured(root):
     """The rows of docs/speed.tsv, by case and program."""
-    head, *rows = [line.split("\t") for line in read(f"{root}/docs/speed.tsv").splitlines() if not line.startswith("#")]
+    head, *rows = [
+        line.split("\t")
+        for line in read(f"{root}/docs/speed.tsv").splitlines()
+        if not line.startswith("#")
+    ]
     return {(row[0], row[1]): dict(zip(head, row)) for row in rows}
 
 
@@ -175,10 +259,18 @@ def is_rounded(said, value):
 def speed_of_readme(root):
     """What README.md says beside TeX, in the sentence that links docs/SPEED.md: two ratios or more of `paragraphs` at tolerance 200, to one decimal place, and its words."""
     ours, tex = (measured(root)["paragraphs_200", it] for it in ("boxglue", "tex"))
-    lines = [it for it in read(f"{root}/README.md").splitlines() if "](docs/SPEED.md)" in it and not it.startswith("|")]
+    lines = [
+        it
+        for it in read(f"{root}/README.md").splitlines()
+        if "](docs/SPEED.md)" in it and not it.startswith("|")
+    ]
     said = [found for it in lines for found in RATIO.findall(it)]
-    wrong = [f"{number} of {what}" for number, what in said
-             if len(number.partition(".")[2]) != 1 or not is_rounded(number, float(ours[COLUMNS[what]]) / float(tex[COLUMNS[what]]))]
+    wrong = [
+        f"{number} of {what}"
+        for number, what in said
+        if len(number.partition(".")[2]) != 1
+        or not is_rounded(number, float(ours[COLUMNS[what]]) / float(tex[COLUMNS[what]]))
+    ]
     words = f"{int(ours['units']):,} words"
     if len({what for _, what in said}) < 2 or not any(words in it for it in lines):
         return f"README.md has no sentence that links docs/SPEED.md, with two ratios to TeX for {words}"
@@ -189,12 +281,40 @@ def figures_of_manual(root):
     """What the manual page says of time and memory that is not docs/speed.tsv, rounded."""
     page, rows = read(f"{root}/docs/boxglue.1"), measured(root)
     few, many = (rows[it, "boxglue"] for it in PAGES)
-    wanted = [(pattern, [float(rows[case, "boxglue"][it]) / scale for it, scale in (("units", 1), ("seconds", 1), ("memory", 1e6))]) for pattern, case in ON_MANUAL]
-    wanted.append((PAGE_ON_MANUAL, [(float(many["seconds"]) - float(few["seconds"])) / (int(many["units"]) - int(few["units"])) * 1e6]))
+    wanted = [
+        (
+            pattern,
+            [
+                float(rows[case, "boxglue"][it]) / scale
+                for it, scale in (("units", 1), ("seconds", 1), ("memory", 1e6))
+            ],
+        )
+        for pattern, case in ON_MANUAL
+    ]
+    wanted.append(
+        (
+            PAGE_ON_MANUAL,
+            [
+                (float(many["seconds"]) - float(few["seconds"]))
+                / (int(many["units"]) - int(few["units"]))
+                * 1e6
+            ],
+        )
+    )
     found = [(re.search(pattern, page), values) for pattern, values in wanted]
-    right = [it and all(is_rounded(said.replace(",", ""), value) for said, value in zip(it.groups(), values)) for it, values in found]
+    right = [
+        it
+        and all(
+            is_rounded(said.replace(",", ""), value) for said, value in zip(it.groups(), values)
+        )
+        for it, values in found
+    ]
     wrong = [pattern for (pattern, _), it in zip(wanted, right) if not it]
-    return f"docs/boxglue.1 does not have the figures of docs/speed.tsv in {' and '.join(wrong)}" if wrong else None
+    return (
+        f"docs/boxglue.1 does not have the figures of docs/speed.tsv in {' and '.join(wrong)}"
+        if wrong
+        else None
+    )
 
 
 def figures(text):
@@ -207,20 +327,36 @@ def figures_with_source(root):
     wrong = []
     for path in documents(root):
         for paragraph in re.split(r"\n\s*\n", read(f"{root}/{path}")):
-            sources = [os.path.normpath(f"{root}/{os.path.dirname(path)}/{it}") for it in SOURCE.findall(paragraph)]
-            known = {it for source in sources if os.path.exists(source) for it in figures(read(source))}
+            sources = [
+                os.path.normpath(f"{root}/{os.path.dirname(path)}/{it}")
+                for it in SOURCE.findall(paragraph)
+            ]
+            known = {
+                it for source in sources if os.path.exists(source) for it in figures(read(source))
+            }
             wrong += [f"{path}: {it}" for it in sorted(figures(paragraph) - known) if sources]
     return f"figures that the linked document does not have: {', '.join(wrong)}" if wrong else None
 
 
 def edits(root):
     """Whether docs/internal/EVIDENCE.md counts the edits as they are, and no crate has too many of them in wrong-bodies/."""
-    many = [it for it in sorted(glob.glob(f"{root}/crates/*")) if len(glob.glob(f"{it}/wrong-bodies/*.edit")) > MOST_EDITS]
+    many = [
+        it
+        for it in sorted(glob.glob(f"{root}/crates/*"))
+        if len(glob.glob(f"{it}/wrong-bodies/*.edit")) > MOST_EDITS
+    ]
     if many:
         return f"more than {MOST_EDITS} edits are in wrong-bodies/ of {', '.join(os.path.basename(it) for it in many)}"
-    counts = [f"{len(glob.glob(f'{root}/crates/*/{folder}/*.edit')):,}" for folder in ("must-fail", "wrong-bodies")]
+    counts = [
+        f"{len(glob.glob(f'{root}/crates/*/{folder}/*.edit')):,}"
+        for folder in ("must-fail", "wrong-bodies")
+    ]
     line = f"{counts[0]} edits are in `must-fail/`, {counts[1]} in `wrong-bodies/`."
-    return None if line in read(f"{root}/docs/internal/EVIDENCE.md").splitlines() else f"docs/internal/EVIDENCE.md has no line {line!r}"
+    return (
+        None
+        if line in read(f"{root}/docs/internal/EVIDENCE.md").splitlines()
+        else f"docs/internal/EVIDENCE.md has no line {line!r}"
+    )
 
 
 def cases(_programs, root):

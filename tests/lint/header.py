@@ -32,10 +32,26 @@ CALLS_OF_C = "#ifndef BOXGLUE_NO_INLINE"
 # The calls, structs and numbers of the header, each with the version that added it. A version that CHANGELOG.md dates is released, and has a row with the
 # digest of its rows. A row that is gone goes with a first number. One struct got fields before that was tested, as the header and CHANGELOG.md say.
 INTERFACE, DIGEST, GONE = "tests/interface.tsv", "sha256 ", "gone "
-CHANGED = ("1.2.0", "struct boxglue_dvi_font { int32_t number; int32_t size; size_t name_start; size_t name_size; };")
+CHANGED = (
+    "1.2.0",
+    "struct boxglue_dvi_font { int32_t number; int32_t size; size_t name_start; size_t name_size; };",
+)
 RELEASED = r"(?m)^## (\d+\.\d+\.\d+), \d+ \w+ \d{4}$"
-TYPES = {"usize": "size_t", "": "void", "*mut u8": "void *", **{f"{it[0]}{it[1:]}": f"{'u' * (it[0] == 'u')}int{it[1:]}_t" for it in "u8 u32 u64 i32 i64".split()}}
-TYPES |= {it: f"struct boxglue_{kind}" for it, kind in zip("JobHandle DviPage DviMark ReplyRow BoxItem".split(), "job page mark reply item".split())}
+TYPES = {
+    "usize": "size_t",
+    "": "void",
+    "*mut u8": "void *",
+    **{
+        f"{it[0]}{it[1:]}": f"{'u' * (it[0] == 'u')}int{it[1:]}_t"
+        for it in "u8 u32 u64 i32 i64".split()
+    },
+}
+TYPES |= {
+    it: f"struct boxglue_{kind}"
+    for it, kind in zip(
+        "JobHandle DviPage DviMark ReplyRow BoxItem".split(), "job page mark reply item".split()
+    )
+}
 NAMES = {"box_sizes": "box"}  # what Rust does not take as a name
 
 
@@ -53,7 +69,11 @@ def c_type(name):
 def slice_of(name, item, mutable):
     """The pointer and the length that C passes for a slice. A length is named after one item: `fonts` and `font_count`."""
     kind = c_type(item)
-    one = re.sub("ies$|s$", lambda end: "y" if end[0] == "ies" else "", name) if kind.startswith("struct") else name
+    one = (
+        re.sub("ies$|s$", lambda end: "y" if end[0] == "ies" else "", name)
+        if kind.startswith("struct")
+        else name
+    )
     suffix = "room" if mutable else "size" if item == "u8" else "count"
     return [f"{'' if mutable else 'const '}{kind} *{name}", f"size_t {one}_{suffix}"]
 
@@ -69,7 +89,11 @@ def c_fields(name, kind):
     if not borrowed:
         return [f"{c_type(kind)} {NAMES.get(name, name)}".replace("* ", "*")]
     mutable, item, one = borrowed.groups()
-    return slice_of(name, item, mutable) if item else [f"{'' if mutable else 'const '}{c_type(one)} *{name}"]
+    return (
+        slice_of(name, item, mutable)
+        if item
+        else [f"{'' if mutable else 'const '}{c_type(one)} *{name}"]
+    )
 
 
 def c_list(text):
@@ -80,7 +104,9 @@ def c_list(text):
 
 def exports(root):
     """Each exported function as C declares it."""
-    for name, parameters, result in re.findall(r'pub extern "C" fn (\w+)\(([^)]*)\)(?: -> (\w+))?', read(f"{root}/{EXPORTS}")):
+    for name, parameters, result in re.findall(
+        r'pub extern "C" fn (\w+)\(([^)]*)\)(?: -> (\w+))?', read(f"{root}/{EXPORTS}")
+    ):
         yield f"{c_type(result)} {name}({', '.join(c_list(parameters)) or 'void'});"
 
 
@@ -93,13 +119,19 @@ def functions(root):
     """What is wrong with the functions."""
     found = functions_of(declared(root))
     wanted = list(exports(root))
-    return None if wanted and found == wanted else f"the header declares {found}, and the exports are {wanted}"
+    return (
+        None
+        if wanted and found == wanted
+        else f"the header declares {found}, and the exports are {wanted}"
+    )
 
 
 def address_call(kind, name, size):
     """What gives an address for a pointer of a type that may be null where its size is 0."""
     plain = kind.removeprefix("const ").removeprefix("struct boxglue_")
-    many = {"uint8_t": "bytes" if plain != kind else "room"}.get(plain) or re.sub(r"ys$", "ies", f"{plain}s")
+    many = {"uint8_t": "bytes" if plain != kind else "room"}.get(plain) or re.sub(
+        r"ys$", "ies", f"{plain}s"
+    )
     return f"boxglue_{many}_at({name}, {size})"
 
 
@@ -107,7 +139,10 @@ def words_of(parameters):
     """The words with which a call passes its parameters on."""
     pairs = [re.fullmatch(r"(.*?) ?\*?(\w+)", it).groups() for it in parameters.split(", ")]
     following = [name for _, name in pairs[1:]] + [""]
-    return [address_call(kind, name, size) if re.search(r"_(size|count|room)$", size) else name for (kind, name), size in zip(pairs, following)]
+    return [
+        address_call(kind, name, size) if re.search(r"_(size|count|room)$", size) else name
+        for (kind, name), size in zip(pairs, following)
+    ]
 
 
 def null_calls(root):
@@ -118,23 +153,50 @@ def null_calls(root):
         passed = ", ".join(words_of(parameters))
         if "_at(" in passed:
             taken = parameters.replace("const uint8_t *script", "const void *script")
-            wanted.append((name, f"static inline uint32_t {name}_or_null({taken}) {{ return {name}({passed}); }}"))
-    missing = [call for name, call in wanted if call not in after or f"#define {name} {name}_or_null " not in f"{after} "]
+            wanted.append(
+                (
+                    name,
+                    f"static inline uint32_t {name}_or_null({taken}) {{ return {name}({passed}); }}",
+                )
+            )
+    missing = [
+        call
+        for name, call in wanted
+        if call not in after or f"#define {name} {name}_or_null " not in f"{after} "
+    ]
     return f"the header has not {missing}" if missing or not wanted else None
 
 
 def structs(root):
     """What is wrong with the structs."""
-    sources = "".join(read(f"{root}/{CALLS}/{it}.rt") for it in ("runs", "given", "font_table", "mark_table", "faults", "font_rows"))
+    sources = "".join(
+        read(f"{root}/{CALLS}/{it}.rt")
+        for it in ("runs", "given", "font_table", "mark_table", "faults", "font_rows")
+    )
     sources += "".join(read(f"{root}/{JOBS}/{it}.rt") for it in ("handle", "rows", "whole"))
     sources += "".join(read(f"{root}/{ITEMS}/{it}.rt") for it in ("place", "row", "writing"))
     counts = re.search(r"const COUNTS: usize = (\d+);", read(f"{root}/{COUNTS}"))[1]
     wanted = {}
-    for name, fields in re.findall(r"#\[repr\(C\)\]\s+(?:#\[derive\([^)]*\)\]\s+)?pub struct (\w+)(?:<'a>)? \{(.*?)\n\}", sources, flags=re.S):
-        plain = re.sub(r"///.*|(pub )?ghost .*", "", fields).replace("pub ", "").replace("COUNTS", counts)
+    for name, fields in re.findall(
+        r"#\[repr\(C\)\]\s+(?:#\[derive\([^)]*\)\]\s+)?pub struct (\w+)(?:<'a>)? \{(.*?)\n\}",
+        sources,
+        flags=re.S,
+    ):
+        plain = (
+            re.sub(r"///.*|(pub )?ghost .*", "", fields)
+            .replace("pub ", "")
+            .replace("COUNTS", counts)
+        )
         wanted[c_type(name)] = c_list(plain)
-    found = {name: [it.strip() for it in fields.split(";") if it.strip()] for name, fields in re.findall(r"(struct boxglue_\w+) \{([^}]*)\};", declared(root))}
-    return None if wanted and found == wanted else f"the header has {found}, and the calls have {wanted}"
+    found = {
+        name: [it.strip() for it in fields.split(";") if it.strip()]
+        for name, fields in re.findall(r"(struct boxglue_\w+) \{([^}]*)\};", declared(root))
+    }
+    return (
+        None
+        if wanted and found == wanted
+        else f"the header has {found}, and the calls have {wanted}"
+    )
 
 
 def spelled(name):
@@ -144,10 +206,16 @@ def spelled(name):
 
 def numbers(root, enum, prefix, *sources, row=r"const (\w+): u32 = (\d+);"):
     """What is wrong with the numbers of an enum. A row of the sources has a name and its number."""
-    found = re.findall(rf"{prefix}(\w+) = (\d+)", re.search(rf"enum {enum} {{(.*?)}}", declared(root))[1])
+    found = re.findall(
+        rf"{prefix}(\w+) = (\d+)", re.search(rf"enum {enum} {{(.*?)}}", declared(root))[1]
+    )
     rows = re.findall(row, "".join(read(f"{root}/{it}") for it in sources))
     wanted = [(spelled(name), number) for name, number in rows]
-    return None if wanted and found == sorted(wanted, key=lambda it: int(it[1])) else f"the header has {found}, and the calls have {wanted}"
+    return (
+        None
+        if wanted and found == sorted(wanted, key=lambda it: int(it[1]))
+        else f"the header has {found}, and the calls have {wanted}"
+    )
 
 
 def statuses(root):
@@ -164,12 +232,30 @@ def numbers_of_replies(root):
     """What is wrong with the numbers of refusals, of their causes, and of kinds of boxes and items."""
     rows = f"{JOBS}/rows.rt"
     faults = f"{CALLS}/faults.rt"
-    wrong = (numbers(root, "boxglue_refusal", "BOXGLUE_REFUSAL_", REFUSALS, rows, faults, row=r"(?:Refusal::|const )(\w+)\S* (?:=> \(|u32 = )(\d+)"),
-             numbers(root, "boxglue_dvi_cause", "BOXGLUE_DVI_", faults, row=r"\bDviCause::(\w+) => (\d+)"),
-             numbers(root, "boxglue_tfm_cause", "BOXGLUE_TFM_", rows, row=r"\bTfmCause::(\w+) => (\d+)"),
-             numbers(root, "boxglue_line_cause", "BOXGLUE_LINE_", rows, row=r"\bCause::(\w+) => (\d+)"),
-             numbers(root, "boxglue_box_kind", "BOXGLUE_BOX_", rows, row=r"\bKind::(\w+) => (\d+)"),
-             numbers(root, "boxglue_item_kind", "BOXGLUE_ITEM_", f"{ITEMS}/row.rt", row=r"\bItemKind::(\w+) => (\d+)"))
+    wrong = (
+        numbers(
+            root,
+            "boxglue_refusal",
+            "BOXGLUE_REFUSAL_",
+            REFUSALS,
+            rows,
+            faults,
+            row=r"(?:Refusal::|const )(\w+)\S* (?:=> \(|u32 = )(\d+)",
+        ),
+        numbers(
+            root, "boxglue_dvi_cause", "BOXGLUE_DVI_", faults, row=r"\bDviCause::(\w+) => (\d+)"
+        ),
+        numbers(root, "boxglue_tfm_cause", "BOXGLUE_TFM_", rows, row=r"\bTfmCause::(\w+) => (\d+)"),
+        numbers(root, "boxglue_line_cause", "BOXGLUE_LINE_", rows, row=r"\bCause::(\w+) => (\d+)"),
+        numbers(root, "boxglue_box_kind", "BOXGLUE_BOX_", rows, row=r"\bKind::(\w+) => (\d+)"),
+        numbers(
+            root,
+            "boxglue_item_kind",
+            "BOXGLUE_ITEM_",
+            f"{ITEMS}/row.rt",
+            row=r"\bItemKind::(\w+) => (\d+)",
+        ),
+    )
     return "; ".join(it for it in wrong if it) or None
 
 
@@ -177,7 +263,9 @@ def status_texts(root):
     """What is wrong with the texts of the statuses: C and Python have the same ones."""
     found = re.findall(r'case BOXGLUE_(\w+): return ("[^"]+");', declared(root))
     wanted = re.findall(r'Status\.(\w+): ("[^"]+"),', read(f"{root}/{STATUSES_OF_PYTHON}"))
-    names = re.findall(r"BOXGLUE_(\w+) = \d+", re.search(r"enum boxglue_status \{([^}]*)\}", declared(root))[1])
+    names = re.findall(
+        r"BOXGLUE_(\w+) = \d+", re.search(r"enum boxglue_status \{([^}]*)\}", declared(root))[1]
+    )
     if [name for name, _ in found] != names:
         return f"the header has texts of {[name for name, _ in found]}, and the statuses {names}"
     return None if found == wanted else f"the header has {found}, and Python has {wanted}"
@@ -188,8 +276,13 @@ def refusal_names(root):
     lists = re.findall(r"const names\[\] = \{([^}]*)\}", declared(root))
     found = [re.findall(r'"(\w+)"', it) for it in lists]
     python_text = read(f"{root}/{REPLIES_OF_PYTHON}")
-    wanted = [re.findall(r'\d+: "(\w+)"', re.search(r"_REFUSALS = \{(.*?)\}", python_text, flags=re.S)[1])]
-    wanted += [re.findall(r'"(\w+)"', re.search(rf"{it} = (.*)", python_text)[1]) for it in ("_DVI_CAUSES", "_METRIC_CAUSES")]
+    wanted = [
+        re.findall(r'\d+: "(\w+)"', re.search(r"_REFUSALS = \{(.*?)\}", python_text, flags=re.S)[1])
+    ]
+    wanted += [
+        re.findall(r'"(\w+)"', re.search(rf"{it} = (.*)", python_text)[1])
+        for it in ("_DVI_CAUSES", "_METRIC_CAUSES")
+    ]
     return None if found == wanted else f"the header has {found}, and Python has {wanted}"
 
 
@@ -197,24 +290,43 @@ def c_of_rust(text):
     """What C writes for parameters or fields of Rust. A name that is a word of Rust has an underscore after it there."""
     made = []
     for name, kind in re.findall(r"(\w+): ([^,]+)", re.sub(r"///.*|\bpub ", "", text)):
-        pointer, length = re.fullmatch(r"\*(const|mut) (\S+)\s*", kind), re.fullmatch(r"\[(\w+); (\d+)\]\s*", kind)
+        pointer, length = re.fullmatch(r"\*(const|mut) (\S+)\s*", kind), re.fullmatch(
+            r"\[(\w+); (\d+)\]\s*", kind
+        )
         item = (pointer[2] if pointer else length[1] if length else kind).strip()
-        plain = {"core::ffi::c_void": "void", "i64": "int64_t"}.get(item) or TYPES.get(item) or f"struct {item}"
-        made.append(f"{'const ' if pointer and pointer[1] == 'const' else ''}{plain} {'*' if pointer else ''}{name.rstrip('_')}{f'[{length[2]}]' if length else ''}")
+        plain = (
+            {"core::ffi::c_void": "void", "i64": "int64_t"}.get(item)
+            or TYPES.get(item)
+            or f"struct {item}"
+        )
+        made.append(
+            f"{'const ' if pointer and pointer[1] == 'const' else ''}{plain} {'*' if pointer else ''}{name.rstrip('_')}{f'[{length[2]}]' if length else ''}"
+        )
     return made
 
 
 def rust(root):
     """What is wrong with the declarations of bindings/rust."""
     text = read(f"{root}/{RUST}")
-    found = [f"{c_type(result)} {name}({', '.join(c_of_rust(given)) or 'void'});" for name, given, result in re.findall(r"pub fn (\w+)\(([^)]*)\)(?: -> (\w+))?;", text)]
+    found = [
+        f"{c_type(result)} {name}({', '.join(c_of_rust(given)) or 'void'});"
+        for name, given, result in re.findall(r"pub fn (\w+)\(([^)]*)\)(?: -> (\w+))?;", text)
+    ]
     if found != functions_of(declared(root)):
         return f"Rust declares {found}, and the header {functions_of(declared(root))}"
-    found = {f"struct {name}": c_of_rust(fields) for name, fields in re.findall(r"pub struct (\w+) \{(.*?)\n\}", text, flags=re.S)}
-    wanted = {name: [it.strip() for it in fields.split(";") if it.strip()] for name, fields in re.findall(r"(struct boxglue_\w+) \{([^}]*)\};", declared(root))}
+    found = {
+        f"struct {name}": c_of_rust(fields)
+        for name, fields in re.findall(r"pub struct (\w+) \{(.*?)\n\}", text, flags=re.S)
+    }
+    wanted = {
+        name: [it.strip() for it in fields.split(";") if it.strip()]
+        for name, fields in re.findall(r"(struct boxglue_\w+) \{([^}]*)\};", declared(root))
+    }
     if found != wanted:
         return f"Rust has {found}, and the header {wanted}"
-    found, wanted = re.findall(r"pub const (BOXGLUE_\w+): u32 = (\d+);", text), re.findall(r"(BOXGLUE_\w+) = (\d+)", declared(root))
+    found, wanted = re.findall(r"pub const (BOXGLUE_\w+): u32 = (\d+);", text), re.findall(
+        r"(BOXGLUE_\w+) = (\d+)", declared(root)
+    )
     return None if found == wanted else f"Rust has {found}, and the header {wanted}"
 
 
@@ -246,7 +358,9 @@ print(json.dumps({**structs, **calls, **{f"enum boxglue_{name}": [*found.items()
 def python_words(root):
     """What the binding for Python has: by the names of structs, of calls and of enums their fields, their parameters and their numbers."""
     env = {"PYTHONPATH": f"{root}/bindings/python", "PYTHONDONTWRITEBYTECODE": "1"}
-    return json.loads(finished([sys.executable, "-c", PRINT_PYTHON], env=env, text=True, check=True).stdout)
+    return json.loads(
+        finished([sys.executable, "-c", PRINT_PYTHON], env=env, text=True, check=True).stdout
+    )
 
 
 def python_type(declaration):
@@ -258,21 +372,33 @@ def python_type(declaration):
 def python_wanted(root):
     """The same of the header."""
     text = declared(root).partition(CALLS_OF_C)[0]
-    made = {name: [" ".join(python_type(it)) for it in body.split(";")[:-1]] for name, body in re.findall(r"(struct boxglue_\w+) \{([^}]*)\};", text)}
+    made = {
+        name: [" ".join(python_type(it)) for it in body.split(";")[:-1]]
+        for name, body in re.findall(r"(struct boxglue_\w+) \{([^}]*)\};", text)
+    }
     for name, body in re.findall(r"\w+ (boxglue_\w+)\(([^)]*)\);", text):
         made[name] = [] if body == "void" else [python_type(it)[0] for it in body.split(",")]
     for name, body in re.findall(r"(enum boxglue_\w+) \{([^}]*)\};", text):
         rows = re.findall(r"BOXGLUE_(\w+) = (\d+)", body)
         prefix = os.path.commonprefix([it for it, _ in rows])
-        made[name] = [[it.removeprefix(prefix[:prefix.rfind("_") + 1]), int(number)] for it, number in rows]
+        made[name] = [
+            [it.removeprefix(prefix[: prefix.rfind("_") + 1]), int(number)] for it, number in rows
+        ]
     return made
 
 
 def python(root):
     """What is wrong with the structs, the calls and the numbers of bindings/python."""
     found, wanted = python_words(root), python_wanted(root)
-    plain = {name: [[spelled(it[0]), it[1]] for it in rows] if name.startswith("enum") else rows for name, rows in found.items()}
-    wrong = [f"{name} is {rows} in Python, and {wanted.get(name)} in the header" for name, rows in plain.items() if rows != wanted.get(name)]
+    plain = {
+        name: [[spelled(it[0]), it[1]] for it in rows] if name.startswith("enum") else rows
+        for name, rows in found.items()
+    }
+    wrong = [
+        f"{name} is {rows} in Python, and {wanted.get(name)} in the header"
+        for name, rows in plain.items()
+        if rows != wanted.get(name)
+    ]
     return "; ".join(wrong) or (None if plain else "Python declares nothing")
 
 
@@ -289,19 +415,42 @@ def new_version(root):
             shutil.copy(f"{root}/{path}", f"{room}/{path}")
         tools_version.write(room, "1.23.4")
         wrong = tools_version.wrong(room)
-        return "; ".join(wrong) or (None if (tools_version.number(room), tools_version.dotted(room)) == (12304, "1.23.4") else "the header has another version")
+        return "; ".join(wrong) or (
+            None
+            if (tools_version.number(room), tools_version.dotted(room)) == (12304, "1.23.4")
+            else "the header has another version"
+        )
 
 
 def other_places(root):
     """Lines of the program, the library, their documents and packages that have the version, and that tools/version.py does not write. A line may tell of its history."""
     number, wrong = tools_version.dotted(root), []
     patterns = "install include/* completions/* docs/boxglue.1 bindings/**/* crates/*/src/**/*.rt tools/**/*".split()
-    for path in sorted({os.path.relpath(it, root) for pattern in patterns for it in glob.glob(f"{root}/{pattern}", recursive=True) if os.path.isfile(it)}):
+    for path in sorted(
+        {
+            os.path.relpath(it, root)
+            for pattern in patterns
+            for it in glob.glob(f"{root}/{pattern}", recursive=True)
+            if os.path.isfile(it)
+        }
+    ):
         with open(f"{root}/{path}", encoding="utf-8", errors="replace") as it:
             text = it.read()
-        for place in (pattern for name, pattern in [(tools_version.HEADER, tools_version.DEFINED), *tools_version.PLACES] if name == path):
+        for place in (
+            pattern
+            for name, pattern in [
+                (tools_version.HEADER, tools_version.DEFINED),
+                *tools_version.PLACES,
+            ]
+            if name == path
+        ):
             text = re.sub(place, "", text)
-        wrong += [f"{path}: {line.strip()}" for line in text.splitlines() if number in line and not re.search(r"since = |such as|as 1|From |In 1|tools/version\.py", line)]
+        wrong += [
+            f"{path}: {line.strip()}"
+            for line in text.splitlines()
+            if number in line
+            and not re.search(r"since = |such as|as 1|From |In 1|tools/version\.py", line)
+        ]
     return "; ".join(wrong) or None
 
 
@@ -309,7 +458,15 @@ def interface_of(text):
     """What a program can see of a header: its calls, its structs and the numbers of its enums."""
     structs_of = re.findall(r"struct boxglue_\w+ \{[^}]*\};", text)
     enums = re.findall(r"enum (boxglue_\w+) \{([^}]*)\}", text)
-    return [*functions_of(text), *structs_of, *(f"enum {name} {it};" for name, body in enums for it in re.findall(r"BOXGLUE_\w+ = \d+", body))]
+    return [
+        *functions_of(text),
+        *structs_of,
+        *(
+            f"enum {name} {it};"
+            for name, body in enums
+            for it in re.findall(r"BOXGLUE_\w+ = \d+", body)
+        ),
+    ]
 
 
 def digest_of(lines):
@@ -333,33 +490,62 @@ def first_number(number):
 
 def gone_wrong(rows):
     """Rows that are gone, and stood in a version with the same first number."""
-    gone = [(number, it.removeprefix(GONE)) for number, its in rows.items() for it in its if it.startswith(GONE)]
-    stood = lambda what, first: any(what in its and first_number(it) == first for it, its in rows.items())
-    return [what for number, what in gone if (number, what) != CHANGED and stood(what, first_number(number))]
+    gone = [
+        (number, it.removeprefix(GONE))
+        for number, its in rows.items()
+        for it in its
+        if it.startswith(GONE)
+    ]
+    stood = lambda what, first: any(
+        what in its and first_number(it) == first for it, its in rows.items()
+    )
+    return [
+        what
+        for number, what in gone
+        if (number, what) != CHANGED and stood(what, first_number(number))
+    ]
 
 
 def interface_wrong(text, rows, number, released):
     """What is wrong with the header of a version and the list by version."""
     lines = [it for its in rows.values() for it in its if not it.startswith(DIGEST)]
-    found, here = sorted(interface_of(text)), sorted(it for it in lines if not it.startswith(GONE) and GONE + it not in lines)
+    found, here = sorted(interface_of(text)), sorted(
+        it for it in lines if not it.startswith(GONE) and GONE + it not in lines
+    )
     if found != here:
         return f"{INTERFACE} and the header differ in {sorted({*found} ^ {*here})}: a row has the version that added it, and a released version keeps its rows"
     if gone_wrong(rows):
         return f"{gone_wrong(rows)} can be gone only where the first number rises"
-    wrong = [it for it in released if digest_of([line for line in rows.get(it, []) if not line.startswith(DIGEST)]) not in rows.get(it, [])]
+    wrong = [
+        it
+        for it in released
+        if digest_of([line for line in rows.get(it, []) if not line.startswith(DIGEST)])
+        not in rows.get(it, [])
+    ]
     late = [it for it in rows if [*map(int, it.split("."))] > [*map(int, number.split("."))]]
-    return f"{INTERFACE} has other rows for {', '.join(wrong + late)} than when it was released: raise the number by tools/version.py" if wrong + late else None
+    return (
+        f"{INTERFACE} has other rows for {', '.join(wrong + late)} than when it was released: raise the number by tools/version.py"
+        if wrong + late
+        else None
+    )
 
 
 def interface(root):
     """What is wrong with the header and the list by version."""
-    return interface_wrong(declared(root), listed(root), tools_version.dotted(root), re.findall(RELEASED, read(f"{root}/CHANGELOG.md")))
+    return interface_wrong(
+        declared(root),
+        listed(root),
+        tools_version.dotted(root),
+        re.findall(RELEASED, read(f"{root}/CHANGELOG.md")),
+    )
 
 
 def new_call(root):
     """Whether a call is found that is added without a new number, whatever row it has; and one that is gone."""
     text, rows, number = declared(root), listed(root), tools_version.dotted(root)
-    call, released = "uint32_t boxglue_new(void);", re.findall(RELEASED, read(f"{root}/CHANGELOG.md"))
+    call, released = "uint32_t boxglue_new(void);", re.findall(
+        RELEASED, read(f"{root}/CHANGELOG.md")
+    )
     # A version that is released takes no row, so the next one stands for it.
     if number in released:
         number = f"{number.partition('.')[0]}.{int(number.split('.')[1]) + 1}.0"
@@ -369,16 +555,37 @@ def new_call(root):
     frozen, old = with_row(rows, number, digest_of(rows[number])), functions_of(text)[0]
     refused = {
         "no row": interface_wrong(longer, rows, number, released),
-        "a released version": interface_wrong(longer, with_row(rows, released[0]), number, released),
+        "a released version": interface_wrong(
+            longer, with_row(rows, released[0]), number, released
+        ),
         "a later version": interface_wrong(longer, with_row(rows, "99.0.0"), number, released),
-        "this version, once it is released": interface_wrong(longer, with_row(frozen, number), number, [*released, number]),
-        "a call that is gone": interface_wrong(text.replace(old, ""), with_row(rows, number, GONE + old), number, released)}
+        "this version, once it is released": interface_wrong(
+            longer, with_row(frozen, number), number, [*released, number]
+        ),
+        "a call that is gone": interface_wrong(
+            text.replace(old, ""), with_row(rows, number, GONE + old), number, released
+        ),
+    }
     allowed = interface_wrong(longer, with_row(rows, number), number, released)
-    return allowed or "; ".join(f"{name} is not found" for name, wrong in refused.items() if not wrong) or None
+    return (
+        allowed
+        or "; ".join(f"{name} is not found" for name, wrong in refused.items() if not wrong)
+        or None
+    )
 
 
 def cases(_programs, root):
     """A case for each kind of declaration."""
     of_c = functions, null_calls, structs, statuses, reply_kinds, numbers_of_replies, status_texts
-    for check in (*of_c, refusal_names, rust, python, version, new_version, other_places, interface, new_call):
+    for check in (
+        *of_c,
+        refusal_names,
+        rust,
+        python,
+        version,
+        new_version,
+        other_places,
+        interface,
+        new_call,
+    ):
         yield check.__name__, partial(check, root)

@@ -9,7 +9,8 @@ from tools.crates import libraries
 
 TITLE = (
     "the tables of crates/README.md have the crates of crates.txt; a crate names only crates that come before it, of its own layer or an earlier "
-    "one, and none that it does not use")
+    "one, and none that it does not use"
+)
 TRIES = False
 # The one crate that knows another of the next layer: texts become nodes.
 LATER = {("shape_core", "node_core")}
@@ -23,14 +24,18 @@ def layers(root):
     for name, crates in ROW.findall(product):
         layer += name != ""
         found |= {it: layer for it in re.findall(r"\w+", crates)}
-    return found | {it: None for _, crates in ROW.findall(tests) for it in re.findall(r"\w+", crates)}
+    return found | {
+        it: None for _, crates in ROW.findall(tests) for it in re.findall(r"\w+", crates)
+    }
 
 
 def tables(root):
     """What is wrong with the crates of the tables."""
     found, listed = layers(root), libraries(root)
     wrong = [f"{it} is in one of them" for it in sorted({*found} ^ {*listed})]
-    return "; ".join(wrong) or (None if max(filter(None, found.values())) == 8 else "there are not eight layers")
+    return "; ".join(wrong) or (
+        None if max(filter(None, found.values())) == 8 else "there are not eight layers"
+    )
 
 
 def later(root):
@@ -41,7 +46,11 @@ def later(root):
         for it in below:
             if it in listed and lines.index(it) > lines.index(crate):
                 wrong.append(f"{crate} names {it} of a later line")
-            if it in found and found[crate] and (not found[it] or (found[it] > found[crate] and (crate, it) not in LATER)):
+            if (
+                it in found
+                and found[crate]
+                and (not found[it] or (found[it] > found[crate] and (crate, it) not in LATER))
+            ):
                 wrong.append(f"{crate} names {it} of a later layer")
     return "; ".join(wrong) or None
 
@@ -50,7 +59,11 @@ def unused(root):
     """Lines of crates.txt with a library of which no file of the crate speaks."""
     wrong = []
     for crate, below in libraries(root).items():
-        paths = [it for folder in ("src", "specs", "proofs") for it in glob.glob(f"{root}/crates/{crate}/{folder}/**/*.*", recursive=True)]
+        paths = [
+            it
+            for folder in ("src", "specs", "proofs")
+            for it in glob.glob(f"{root}/crates/{crate}/{folder}/**/*.*", recursive=True)
+        ]
         text = "\n".join(read(it) for it in paths if it.endswith((".rt", ".antt")))
         wrong += [f"{crate} names {it}" for it in below if not re.search(rf"\b{it}\b", text)]
     return f"without use: {', '.join(wrong)}" if wrong else None

@@ -39,21 +39,42 @@ def sources(root):
 
 def not_listed(root):
     """Tools that a case names, and the list does not have."""
-    missing = {it for names in re.findall(r"\b(?:lacks|without|need)\(([^()]*)\)", sources(root)) for it in re.findall(r"\"([^\"]+)\"", names)} - {*listed(root)} - {"TOOL"}
+    missing = (
+        {
+            it
+            for names in re.findall(r"\b(?:lacks|without|need)\(([^()]*)\)", sources(root))
+            for it in re.findall(r"\"([^\"]+)\"", names)
+        }
+        - {*listed(root)}
+        - {"TOOL"}
+    )
     return f"docs/internal/GATE.md does not list {', '.join(sorted(missing))}" if missing else None
 
 
 def not_named(root):
     """Tools of the list that stand in no part."""
     more = [it for it in listed(root) if f'"{it}"' not in sources(root)]
-    return f"docs/internal/GATE.md lists {', '.join(more)}, which no case needs" if more or not listed(root) else None
+    return (
+        f"docs/internal/GATE.md lists {', '.join(more)}, which no case needs"
+        if more or not listed(root)
+        else None
+    )
 
 
 def held(root):
     """A skip by a listed tool passes in the gate, and every other one is a failure."""
     tool = listed(root)[0]
-    right, wrong = ("a", f"no {tool}"), [("b", "no cc"), ("c", "it needs an archive: --library"), ("d", f"{tool} is not there"), ("e", "no")]
-    return None if others([right, *wrong], root) == wrong else "the gate takes a skip for another reason"
+    right, wrong = ("a", f"no {tool}"), [
+        ("b", "no cc"),
+        ("c", "it needs an archive: --library"),
+        ("d", f"{tool} is not there"),
+        ("e", "no"),
+    ]
+    return (
+        None
+        if others([right, *wrong], root) == wrong
+        else "the gate takes a skip for another reason"
+    )
 
 
 def cases(_programs, root):

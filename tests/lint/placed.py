@@ -52,7 +52,12 @@ def definitions(tree, crate):
 def unreached(tree):
     """The definitions that no public contract reaches, each with all its names."""
     found = reached_by_contracts(tree)
-    return [(it, names) for crate in tree.crates() for it, names in definitions(tree, crate) if it not in found]
+    return [
+        (it, names)
+        for crate in tree.crates()
+        for it, names in definitions(tree, crate)
+        if it not in found
+    ]
 
 
 @lru_cache(None)
@@ -70,21 +75,40 @@ def outcome(root, crate):
         is_private = it.module.startswith("Private.")
         if is_private == (it in found):
             wrong.setdefault((it.module, "a" if is_private else "no"), []).extend(names)
-    return "; ".join(f"{module} has what {which} public contract reaches: {', '.join(names)}" for (module, which), names in wrong.items()) or None
+    return (
+        "; ".join(
+            f"{module} has what {which} public contract reaches: {', '.join(names)}"
+            for (module, which), names in wrong.items()
+        )
+        or None
+    )
 
 
 def callable_by_hand(root):
     """What is wrong with what others can call."""
     found = {crate: {*Sources(root, crate).names()} for crate in {*CALLED, *UNCALLED}}
-    wrong = [f"{crate}::{it} is not there" for crate, names in CALLED.items() for it in names.split() if it not in found[crate]]
-    wrong += [f"{crate}::{it} is there" for crate, names in UNCALLED.items() for it in names.split() if it in found[crate]]
+    wrong = [
+        f"{crate}::{it} is not there"
+        for crate, names in CALLED.items()
+        for it in names.split()
+        if it not in found[crate]
+    ]
+    wrong += [
+        f"{crate}::{it} is there"
+        for crate, names in UNCALLED.items()
+        for it in names.split()
+        if it in found[crate]
+    ]
     return "; ".join(wrong) or None
 
 
 def unfollowed(root):
     """Names by which a definition would be used unseen: an import of a whole module under its own name, and an operator."""
     wrong, crates = [], tree_of(root).crates()
-    for path in sorted(glob.glob(f"{root}/crates/*/src/**/*.rt", recursive=True) + glob.glob(f"{root}/crates/*/specs/**/*.antt", recursive=True)):
+    for path in sorted(
+        glob.glob(f"{root}/crates/*/src/**/*.rt", recursive=True)
+        + glob.glob(f"{root}/crates/*/specs/**/*.antt", recursive=True)
+    ):
         names = [it for it in WHOLE_MODULE.findall(read(path)) if it.split(".")[0] in crates]
         names += re.findall(r"(?m)^(?:\w+ )*pub (?:\w+ )*([^\s:({]*◌[^\s:({]*) :", read(path))
         wrong += [f"{os.path.relpath(path, root)}: {it}" for it in names]

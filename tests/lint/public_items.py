@@ -19,6 +19,7 @@ OPENING = "{(["
 class Item:
     """An item of a source: its kind, its name, whether `pub` stands before it, its text without body, its clauses, the items in it, and the places of its clauses with
     their labels; those of another item are its own."""
+
     kind: str
     name: str
     is_public: bool
@@ -34,7 +35,7 @@ def attributes(text, at):
     is_test = False
     while match := re.compile(r"\s*#!?\[").match(text, at):
         end = end_of_group(text, match.end() - 1)
-        is_test |= re.match(r"\[\s*(?:cfg\s*\(\s*)?test\b", text[match.end() - 1:end]) is not None
+        is_test |= re.match(r"\[\s*(?:cfg\s*\(\s*)?test\b", text[match.end() - 1 : end]) is not None
         at = end
     return re.compile(r"\s*").match(text, at).end(), is_test
 
@@ -46,7 +47,7 @@ def function(text, at, name):
         if match := CLAUSE.match(text, at):
             head.append(text[start:at])
             end = end_of_group(text, match.end())
-            clauses.append(text[match.end():end])
+            clauses.append(text[match.end() : end])
             places.append((at, end))
             start = at = end
         elif text[at] in OPENING:
@@ -54,9 +55,14 @@ def function(text, at, name):
         else:
             at += 1
             # A word is left whole.
-            at = re.compile(r"\w*").match(text, at).end() if text[at - 1:at].isidentifier() else at
+            at = (
+                re.compile(r"\w*").match(text, at).end() if text[at - 1 : at].isidentifier() else at
+            )
     head.append(text[start:at])
-    return Item("fn", name, False, "".join(head), "", clauses, places=places), end_of_group(text, at) if text[at] == "{" else at + 1
+    return (
+        Item("fn", name, False, "".join(head), "", clauses, places=places),
+        end_of_group(text, at) if text[at] == "{" else at + 1,
+    )
 
 
 def end_of_item(text, at):
@@ -81,7 +87,12 @@ def items(text, at=0, end=None):
             item, at = function(text, match.end(), name)
         else:
             body = end_of_item(text, match.start())
-            item = Item("ghost" if is_ghost and kind != "use" else kind, match[1] if is_ghost else name, False, text[match.start():body])
+            item = Item(
+                "ghost" if is_ghost and kind != "use" else kind,
+                match[1] if is_ghost else name,
+                False,
+                text[match.start() : body],
+            )
             if kind in ("impl", "trait") and text[body] == "{":
                 at = end_of_group(text, body)
                 item.inner = items(text, body + 1, at - 1)
@@ -118,9 +129,9 @@ def impl_of(item):
 
 def leaves(item):
     """The paths that a `use` brings in, each with its name here."""
-    body = re.sub(r"\s+", " ", item.text[item.text.index("use") + 3:]).strip().rstrip(";").strip()
+    body = re.sub(r"\s+", " ", item.text[item.text.index("use") + 3 :]).strip().rstrip(";").strip()
     before, _, group = body.partition("{")
-    for path in ([before + it.strip() for it in group.rstrip("} ").split(",")] if group else [body]):
+    for path in [before + it.strip() for it in group.rstrip("} ").split(",")] if group else [body]:
         whole, _, here = path.strip().partition(" as ")
         if parts := [it for it in whole.strip().split("::") if it]:
             yield parts, here.strip() or parts[-1]
@@ -129,7 +140,10 @@ def leaves(item):
 def shown_types(item):
     """The text of the types of the public fields of a type, or of the cases of an enum without their names."""
     if item.kind == "struct":
-        return " ".join(re.findall(r"(?m)^\s+pub \w+:([^\n]*)", item.text) + re.findall(r"\(\s*pub ([^\n]*)\)", item.text))
+        return " ".join(
+            re.findall(r"(?m)^\s+pub \w+:([^\n]*)", item.text)
+            + re.findall(r"\(\s*pub ([^\n]*)\)", item.text)
+        )
     return re.sub(r"(?m)^    \w+(?=[,({ ])", "", item.text)
 
 
@@ -138,7 +152,9 @@ class Sources:
 
     def __init__(self, root, crate):
         self.folder = f"{root}/crates/{crate}/src"
-        self.root_file = next((it for it in ("lib.rt", "main.rt") if os.path.exists(f"{self.folder}/{it}")), None)
+        self.root_file = next(
+            (it for it in ("lib.rt", "main.rt") if os.path.exists(f"{self.folder}/{it}")), None
+        )
         self.files, self.exported = {}, set()
         if self.root_file:
             self.read(())
@@ -147,7 +163,9 @@ class Sources:
 
     def path(self, module):
         """The file of a module."""
-        return f"{self.folder}/{'/'.join(module)}.rt" if module else f"{self.folder}/{self.root_file}"
+        return (
+            f"{self.folder}/{'/'.join(module)}.rt" if module else f"{self.folder}/{self.root_file}"
+        )
 
     def read(self, module):
         """Reads the file of a module and those of the modules in it."""
@@ -185,7 +203,12 @@ class Sources:
 
     def types(self):
         """All types and traits of the crate by their names."""
-        return {item.name: module for module, its in self.files.items() for item in its if item.kind in TYPES}
+        return {
+            item.name: module
+            for module, its in self.files.items()
+            for item in its
+            if item.kind in TYPES
+        }
 
     def add_types(self):
         """Enters the types that stand in what is exported: their values can be had, and their methods called."""
@@ -193,7 +216,9 @@ class Sources:
         while before != len(self.exported):
             before = len(self.exported)
             text = " ".join(self.seen())
-            self.exported |= {(module, name) for name, module in known.items() if re.search(rf"\b{name}\b", text)}
+            self.exported |= {
+                (module, name) for name, module in known.items() if re.search(rf"\b{name}\b", text)
+            }
 
     def seen(self):
         """The signatures of what is exported, and the public fields of its types."""
@@ -213,7 +238,9 @@ class Sources:
         """The `impl` blocks of the sources, and the traits that are exported, each with its module."""
         for module, its in self.files.items():
             for item in its:
-                if item.kind == "impl" or (item.kind == "trait" and (module, item.name) in self.exported):
+                if item.kind == "impl" or (
+                    item.kind == "trait" and (module, item.name) in self.exported
+                ):
                     yield module, item
 
     def callable(self):
@@ -227,22 +254,41 @@ class Sources:
             if trait == "Model" or not self.is_of(name) or (trait and not self.is_of(trait)):
                 continue
             for item in block.inner:
-                if (item.kind == "fn" and (item.is_public or trait is not None)) or item.kind == "ghost":
+                if (
+                    item.kind == "fn" and (item.is_public or trait is not None)
+                ) or item.kind == "ghost":
                     yield (module, block), item
 
     def names(self):
         """The names of what can be called, those of methods after their type or trait."""
         for (_, block), item in self.callable():
-            kind = "" if not block else f"{impl_of(block)[1] if block.kind == 'impl' else block.name}::"
+            kind = (
+                ""
+                if not block
+                else f"{impl_of(block)[1] if block.kind == 'impl' else block.name}::"
+            )
             yield f"{kind}{item.name}"
 
     def contracts(self):
         """The texts of contracts that callers see, each with the texts of the imports that it is read by."""
         for (module, block), item in self.callable():
             uses = [*self.files[module], *(block.inner if block else [])]
-            yield "\n".join(it.text for it in uses if it.kind == "use"), "\n".join(item.clauses) if item.kind == "fn" else item.text
+            yield "\n".join(it.text for it in uses if it.kind == "use"), "\n".join(
+                item.clauses
+            ) if item.kind == "fn" else item.text
 
     def type_names(self):
         """The names of the exported types that are no traits."""
-        kinds = {(module, item.name): item.kind for module, its in self.files.items() for item in its if item.kind in TYPES}
-        return sorted({name for module, name in self.exported if kinds.get((module, name)) in ("struct", "enum", "type")})
+        kinds = {
+            (module, item.name): item.kind
+            for module, its in self.files.items()
+            for item in its
+            if item.kind in TYPES
+        }
+        return sorted(
+            {
+                name
+                for module, name in self.exported
+                if kinds.get((module, name)) in ("struct", "enum", "type")
+            }
+        )

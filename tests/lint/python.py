@@ -28,7 +28,12 @@ def is_python(path):
 
 def files(root, folders):
     """The paths of the Python files of folders, below the root."""
-    return [os.path.relpath(path, root) for folder in folders for path in sorted(glob.glob(f"{root}/{folder}/*")) if is_python(path)]
+    return [
+        os.path.relpath(path, root)
+        for folder in folders
+        for path in sorted(glob.glob(f"{root}/{folder}/*"))
+        if is_python(path)
+    ]
 
 
 def faults(root, folders):
@@ -41,8 +46,16 @@ def faults(root, folders):
 def types(root, folders):
     """What mypy says."""
     need("mypy")
-    words = ["mypy", f"--cache-dir={own_folder()}/mypy", *"--scripts-are-modules --explicit-package-bases --ignore-missing-imports --follow-imports=silent".split()]
-    ran = finished([*words, *files(root, folders)], cwd=root, env={**os.environ, "MYPYPATH": ":".join(f"{root}/{it}" for it in PATH)})
+    words = [
+        "mypy",
+        f"--cache-dir={own_folder()}/mypy",
+        *"--scripts-are-modules --explicit-package-bases --ignore-missing-imports --follow-imports=silent".split(),
+    ]
+    ran = finished(
+        [*words, *files(root, folders)],
+        cwd=root,
+        env={**os.environ, "MYPYPATH": ":".join(f"{root}/{it}" for it in PATH)},
+    )
     return last_lines(ran.stdout + ran.stderr, 5) if ran.returncode else None
 
 

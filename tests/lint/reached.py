@@ -12,10 +12,14 @@ from common.files import source as read
 
 # Where a clause of a contract begins; its name.
 CLAUSE = re.compile(r"\b(?:requires|ensures)\b\*? ?(\w*) ?\{")
-DECLARED = re.compile(r"(?:(?:unfoldable|abbrev|pub|total) )*pub (?:(?:total|record|data) )*([^\s:(]+)")
+DECLARED = re.compile(
+    r"(?:(?:unfoldable|abbrev|pub|total) )*pub (?:(?:total|record|data) )*([^\s:(]+)"
+)
 IMPORT = re.compile(r"\buse\s+(Rattle\.[\w.]+)\.(?:\{([^}]*)\}|(\w+)\s+as\s+(\w+))", re.S)
 WORD = re.compile(r"(?<![\w.'])(\w+)\.(\w+)|(?<![\w.'])([^\W\d][\w'×-]*)")
-SOURCED = re.compile(r"\([^()]*(?:\([^()]*\)[^()]*)*(?:\bown\b|TeX: The Program|DVItype|TFtoPL|Netpbm)[^()]*(?:\([^()]*\)[^()]*)*\)")
+SOURCED = re.compile(
+    r"\([^()]*(?:\([^()]*\)[^()]*)*(?:\bown\b|TeX: The Program|DVItype|TFtoPL|Netpbm)[^()]*(?:\([^()]*\)[^()]*)*\)"
+)
 RUST = r"(?m)^((?:[ ]*///[^\n]*\n|[ ]*#\[[^\n]*\]\n)*)[ ]*(?:pub )?(?:struct|enum|trait|type) {0}\b"
 MODEL = r"(?m)^impl(?:<[^{{]*?>)? Model for {0}\b"
 
@@ -23,6 +27,7 @@ MODEL = r"(?m)^impl(?:<[^{{]*?>)? Model for {0}\b"
 @dataclass(frozen=True)
 class Name:
     """Where a definition is: its crate, its module or, for a type of a source, the path of its file, and its name."""
+
     crate: str
     module: str
     name: str
@@ -35,6 +40,7 @@ class Name:
 @dataclass
 class Definition:
     """A definition: all names that share its comment, the comment, where it stands, the fields with their comments, and what its text names."""
+
     names: list
     comment: str
     place: str
@@ -88,7 +94,9 @@ def blocks(text):
             comment.append(line)
         elif DECLARED.match(line) and not line.startswith("pub use"):
             end = at + 1
-            while end < len(lines) and not is_comment(lines[end]) and not DECLARED.match(lines[end]):
+            while (
+                end < len(lines) and not is_comment(lines[end]) and not DECLARED.match(lines[end])
+            ):
                 end += 1
             found.append((at + 1, comment, lines[at:end]))
             if end < len(lines) and is_comment(lines[end]):
@@ -128,9 +136,13 @@ class Tree:
                 definition.text += "\n" + "\n".join(lines).rstrip()
             else:
                 place = f"crates/{crate}/specs/{module.replace('.', '/')}.antt:{line}"
-                definition = Definition([name], comment_of(comment), place, [], "\n".join(lines).rstrip())
+                definition = Definition(
+                    [name], comment_of(comment), place, [], "\n".join(lines).rstrip()
+                )
                 last = comment, definition
-            definition.fields += own_fields(lines[1:]) if re.search(r"\b(?:record|data)\b", lines[0]) else []
+            definition.fields += (
+                own_fields(lines[1:]) if re.search(r"\b(?:record|data)\b", lines[0]) else []
+            )
             whole = f"{definition.comment} {' '.join(it for _, it in definition.fields)}"
             sources = SOURCED.findall(whole)
             definition.source = "" if sources else (SOURCED.findall(head) or [""])[-1]
@@ -143,7 +155,10 @@ class Tree:
     def modules(self, crate):
         """The modules of definitions of a crate, those of specs/Private too. The root files declare modules alone."""
         folder = f"{self.root}/crates/{crate}/specs"
-        found = (os.path.relpath(it, folder)[:-len(".antt")].replace("/", ".") for it in glob.glob(f"{folder}/**/*.antt", recursive=True))
+        found = (
+            os.path.relpath(it, folder)[: -len(".antt")].replace("/", ".")
+            for it in glob.glob(f"{folder}/**/*.antt", recursive=True)
+        )
         return sorted(it for it in found if it not in ("Lib", "Private"))
 
     @functools.lru_cache(None)
@@ -155,7 +170,14 @@ class Tree:
     def type_file(self, crate, name):
         """The file that declares a type of a crate; None if there is none."""
         kinds = re.compile(rf"\b(?:struct|enum|trait|type) {re.escape(name)}\b")
-        return next((it for it in self.files(crate) if kinds.search(read(it)) and re.search(RUST.format(re.escape(name)), read(it))), None)
+        return next(
+            (
+                it
+                for it in self.files(crate)
+                if kinds.search(read(it)) and re.search(RUST.format(re.escape(name)), read(it))
+            ),
+            None,
+        )
 
     def resolve(self, path):
         """The name of a definition by the path of an import; None if it is none of this repository's specs."""
@@ -165,9 +187,11 @@ class Tree:
         crate, rest = parts[1], parts[3:]
         if rest[0] == "declared":
             kinds = [it for it in rest[1:] if it in ("TheVariants", "TheConstants")]
-            name = rest[-1] if not kinds else rest[rest.index(kinds[0]) - (kinds[0] == "TheVariants")]
+            name = (
+                rest[-1] if not kinds else rest[rest.index(kinds[0]) - (kinds[0] == "TheVariants")]
+            )
             if kinds == ["TheConstants"]:
-                return Name(crate, "/".join(rest[1:rest.index("TheConstants")]), rest[-1], True)
+                return Name(crate, "/".join(rest[1 : rest.index("TheConstants")]), rest[-1], True)
             return Name(crate, "", name, True) if self.type_file(crate, name) else None
         module, name = ".".join(rest[:-1]), rest[-1]
         found, (names, _) = self.module(crate, module)
@@ -182,7 +206,13 @@ class Tree:
                 found = self.resolve(f"{modules[head]}.{after}")
             else:
                 word = alone or head
-                found = Name(crate, module, own[word].names[0]) if word in own else self.resolve(names[word]) if word in names else None
+                found = (
+                    Name(crate, module, own[word].names[0])
+                    if word in own
+                    else self.resolve(names[word])
+                    if word in names
+                    else None
+                )
             if found:
                 yield found
 
@@ -190,41 +220,77 @@ class Tree:
         """A type or a constant of a source: its comment and its view, or the types of its fields where it has none."""
         if it.module:
             path = f"{self.root}/crates/{it.crate}/src/{it.module}.rt"
-            match = os.path.exists(path) and re.search(rf"(?m)^((?:///[^\n]*\n)*)pub const {re.escape(it.name)}\b[^;]*;", read(path))
+            match = os.path.exists(path) and re.search(
+                rf"(?m)^((?:///[^\n]*\n)*)pub const {re.escape(it.name)}\b[^;]*;", read(path)
+            )
             comment = " ".join(re.findall(r"///\s?(.*)", match[1])) if match else ""
-            return Definition([it.name], comment, f"crates/{it.crate}/src/{it.module}.rt", text=match[0][len(match[1]):] if match else "")
+            return Definition(
+                [it.name],
+                comment,
+                f"crates/{it.crate}/src/{it.module}.rt",
+                text=match[0][len(match[1]) :] if match else "",
+            )
         path = self.type_file(it.crate, it.name)
         text = read(path)
         match = re.search(RUST.format(re.escape(it.name)), text)
         comment = " ".join(re.findall(r"///\s?(.*)", match[1]))
         line = text.count("\n", 0, match.end()) + 1
         body = declaration(text, match.start() + len(match[1]))
-        definition = Definition([it.name], comment, f"{os.path.relpath(path, self.root)}:{line}", rust_fields(body), body)
+        definition = Definition(
+            [it.name],
+            comment,
+            f"{os.path.relpath(path, self.root)}:{line}",
+            rust_fields(body),
+            body,
+        )
         names, modules = imports(text)
-        models = [whole for file in self.files(it.crate) for whole in models_of(read(file), it.name)]
+        models = [
+            whole for file in self.files(it.crate) for whole in models_of(read(file), it.name)
+        ]
         for model in models:
             value = re.search(r"(?s)ghost Value = \{(.*?)\};", model)
             inner, inner_modules = imports(model)
-            definition.uses += self.named(value[1] if value else "", {}, {**names, **inner}, {**modules, **inner_modules}, it.crate, "")
+            definition.uses += self.named(
+                value[1] if value else "",
+                {},
+                {**names, **inner},
+                {**modules, **inner_modules},
+                it.crate,
+                "",
+            )
         if not models:
             plain = re.sub(r"///[^\n]*", "", body)
-            definition.uses += self.types_in(re.sub(r"(?m)^    \w+(?=[,({ ])", "", plain) if re.match(r"\s*(?:pub )?enum", plain) else plain, it, text)
+            definition.uses += self.types_in(
+                re.sub(r"(?m)^    \w+(?=[,({ ])", "", plain)
+                if re.match(r"\s*(?:pub )?enum", plain)
+                else plain,
+                it,
+                text,
+            )
         return definition
 
     def types_in(self, body, it, text):
         """The types of this repository that the fields of a type have."""
         for word in dict.fromkeys(re.findall(r"\b[A-Z]\w+", body)):
             crates = [it.crate, *dict.fromkeys(re.findall(r"(?m)^(?:pub )?use (\w+)::", text))]
-            crate = next((crate for crate in crates if word != it.name and self.type_file(crate, word)), None)
+            crate = next(
+                (crate for crate in crates if word != it.name and self.type_file(crate, word)), None
+            )
             if not crate and re.search(rf"\buse (?!std|core)\w+::[^;]*\b{word}\b", text):
-                crate = next((crate for crate in self.crates() if self.type_file(crate, word)), None)
+                crate = next(
+                    (crate for crate in self.crates() if self.type_file(crate, word)), None
+                )
             if crate:
                 yield Name(crate, "", word, True)
 
     @functools.lru_cache(None)
     def crates(self):
         """The crates in the order of crates.txt."""
-        return [it.split(":")[0].split()[0] for it in read(f"{self.root}/crates.txt").splitlines() if ":" in it and not it.startswith("#")]
+        return [
+            it.split(":")[0].split()[0]
+            for it in read(f"{self.root}/crates.txt").splitlines()
+            if ":" in it and not it.startswith("#")
+        ]
 
     def definition(self, it):
         """The definition of a name."""
@@ -250,12 +316,17 @@ class Tree:
             elif it not in entered:
                 entered.add(it)
                 open_ones.append((it, True))
-                open_ones += [(used, False) for used in reversed(self.definition(it).uses) if used not in entered]
+                open_ones += [
+                    (used, False)
+                    for used in reversed(self.definition(it).uses)
+                    if used not in entered
+                ]
         return found
 
     def by_name(self, given):
         """The definitions and types with a name, which a crate may stand before, as `job_core::Represents`; else what the clauses of the functions of this name speak of,
-        before which a type may stand, as `Dvi::open`, and behind which one clause, as `run_commands.headline`."""
+        before which a type may stand, as `Dvi::open`, and behind which one clause, as `run_commands.headline`.
+        """
         *before, name = given.split("::")
         name, _, clause = name.partition(".")
         crates, found = [it for it in before if it in self.crates()], []
@@ -267,17 +338,25 @@ class Tree:
                     found.append(Name(crate, module, own[name].names[0]))
             if self.type_file(crate, name):
                 found.append(Name(crate, "", name, True))
-        return found or [it for crate in crates or self.crates() for it in self.by_function(crate, name, kind, clause)]
+        return found or [
+            it
+            for crate in crates or self.crates()
+            for it in self.by_function(crate, name, kind, clause)
+        ]
 
     def by_function(self, crate, name, kind=None, clause=""):
         """What the clauses of a function speak of, or one of them: of those in files that have an `impl` of a type or its trait, if one is named."""
         for path in self.files(crate):
             text = read(path)
-            if kind and not re.search(rf"(?m)^(?:pub )?(?:impl|trait)\b[^{{\n]*\b{re.escape(kind)}\b", text):
+            if kind and not re.search(
+                rf"(?m)^(?:pub )?(?:impl|trait)\b[^{{\n]*\b{re.escape(kind)}\b", text
+            ):
                 continue
             names, modules = imports(text)
-            for match in re.finditer(rf"\b(?:pub |pub extern \"C\" |(?<=^    ))fn {re.escape(name)}\b", text, re.M):
-                contract = re.split(r"\n[ ]*\{|;[ ]*\n[ ]*\n", text[match.end():], maxsplit=1)[0]
+            for match in re.finditer(
+                rf"\b(?:pub |pub extern \"C\" |(?<=^    ))fn {re.escape(name)}\b", text, re.M
+            ):
+                contract = re.split(r"\n[ ]*\{|;[ ]*\n[ ]*\n", text[match.end() :], maxsplit=1)[0]
                 for found in clauses_of(re.sub(r"//[^\n]*", "", contract), clause):
                     yield from self.named(found, {}, names, modules, crate, "")
 
@@ -287,7 +366,7 @@ def clauses_of(contract, name):
     begins = [*CLAUSE.finditer(contract)]
     for at, after in zip(begins, [*(it.start() for it in begins[1:]), len(contract)]):
         if not name or at[1] == name:
-            yield contract[at.start():after]
+            yield contract[at.start() : after]
 
 
 def declaration(text, at):
@@ -298,7 +377,7 @@ def declaration(text, at):
         depth -= text[end] in "})"
         if (text[end] == "}" and not depth) or (text[end] == ";" and not depth):
             break
-    return text[at:end + 1]
+    return text[at : end + 1]
 
 
 def rust_fields(body):

@@ -9,22 +9,34 @@ from itertools import accumulate
 
 # What stands in place of code and of quoted words: a noun, which may begin a sentence.
 NOUN = "◇"
-FENCE, CODE, LEFT_OUT = re.compile(r"\s*(?:```|~~~)"), re.compile(r" {4}|\t"), re.compile(r"\s*#+ |\s*<!--|\s*\[[^]]+\]: |\s*\|?[-:| ]+$")
+FENCE, CODE, LEFT_OUT = (
+    re.compile(r"\s*(?:```|~~~)"),
+    re.compile(r" {4}|\t"),
+    re.compile(r"\s*#+ |\s*<!--|\s*\[[^]]+\]: |\s*\|?[-:| ]+$"),
+)
 ITEM, CELLS = re.compile(r"\s*(?:> ?)*(?:[-*+]|\d+[.)])\s+"), re.compile(r"\s*\|")
 # A sentence ends before a capital letter, a number or a noun. The text after a colon is a sentence only if it begins with a capital letter.
-END = re.compile(r"(?<!e\.g\.)(?<!i\.e\.)(?<!cf\.)(?<!vs\.)(?:(?<=[.!?])|(?<=[.!?]\)))\s+(?=[(\[]*[A-Z\d◇])|(?<=:)\s+(?=[A-Z])")
+END = re.compile(
+    r"(?<!e\.g\.)(?<!i\.e\.)(?<!cf\.)(?<!vs\.)(?:(?<=[.!?])|(?<=[.!?]\)))\s+(?=[(\[]*[A-Z\d◇])|(?<=:)\s+(?=[A-Z])"
+)
 
 
 @dataclass(frozen=True)
 class Sentence:
     """A sentence, the number of its line, and its place: a "paragraph", an "item" of a list, or a "cell"."""
+
     line: int
     text: str
     kind: str
 
     def is_whole(self):
         """Whether it is a sentence or an item. A cell is one if it ends as one, or begins with a capital letter and has four words."""
-        return self.kind != "cell" or self.text[-1] in ".!" or self.text[0].isupper() and len(self.text.split()) >= 4
+        return (
+            self.kind != "cell"
+            or self.text[-1] in ".!"
+            or self.text[0].isupper()
+            and len(self.text.split()) >= 4
+        )
 
 
 def plain(line):
@@ -49,7 +61,7 @@ def blocks(text):
             found += [("cell", [(number, it.strip())]) for it in plain(line).strip("|").split("|")]
             is_open = False
         elif item := ITEM.match(line):
-            found.append(("item", [(number, plain(line[item.end():]))]))
+            found.append(("item", [(number, plain(line[item.end() :]))]))
             is_open = True
         elif not is_open:
             found.append(("paragraph", [(number, plain(line))]))
@@ -63,7 +75,7 @@ def parts(text):
     """The parts of a text that END cuts, each with its place."""
     begin = 0
     for found in END.finditer(text):
-        yield begin, text[begin:found.start()]
+        yield begin, text[begin : found.start()]
         begin = found.end()
     yield begin, text[begin:]
 

@@ -4,12 +4,17 @@ A check of a crate above loads types, constants and contracts, and no body. So a
 function that is private to its file leaves this text unchanged."""
 import re
 
-TOKEN = re.compile(r"""//[^\n]*|/\*.*?\*/|b?"(?:\\.|[^"\\])*"|b?'(?:\\[^']+|[^\\'\n])'|[^\W\d][\w']*|\d\w*|\s+|.""", re.S)
+TOKEN = re.compile(
+    r"""//[^\n]*|/\*.*?\*/|b?"(?:\\.|[^"\\])*"|b?'(?:\\[^']+|[^\\'\n])'|[^\W\d][\w']*|\d\w*|\s+|.""",
+    re.S,
+)
 
 
 def tokens_of(text):
     """The tokens of a source file, without blanks and comments."""
-    return [it for it in TOKEN.findall(text) if not it.isspace() and not it.startswith(("//", "/*"))]
+    return [
+        it for it in TOKEN.findall(text) if not it.isspace() and not it.startswith(("//", "/*"))
+    ]
 
 
 def end_of(tokens, at):
@@ -65,7 +70,9 @@ def imports_of(tokens):
     """The other tokens, and the names of each private import with the path that they come from."""
     rest, names, at = [], [], 0
     while at < len(tokens):
-        begins = tokens[at] == "use" and tokens[at - 1 : at] != ["pub"] and tokens[at - 1 : at] != [")"]
+        begins = (
+            tokens[at] == "use" and tokens[at - 1 : at] != ["pub"] and tokens[at - 1 : at] != [")"]
+        )
         if not begins:
             rest.append(tokens[at])
             at += 1
@@ -74,7 +81,11 @@ def imports_of(tokens):
             rest.pop()
         ends = tokens.index(";", at)
         path, _, group = " ".join(tokens[at:ends]).partition("{")
-        names += [(path, it.strip()) for it in re.split(r"[,{}]", group) if it.strip()] if group else [(path, path)]
+        names += (
+            [(path, it.strip()) for it in re.split(r"[,{}]", group) if it.strip()]
+            if group
+            else [(path, path)]
+        )
         at = ends + 1
     return rest, names
 

@@ -13,24 +13,50 @@ LEAST, GREATEST = -(1 << 31), (1 << 31) - 1
 # The instructions with a number of one to four bytes: the code of the first, and at which sizes the number has a sign.
 AT_FOUR, ALWAYS, NEVER = (False, False, False, True), (True,) * 4, (False,) * 4
 NUMBERED = {
-    "set": (128, AT_FOUR), "put": (133, AT_FOUR), "fnt": (235, AT_FOUR), "fnt_def": (243, AT_FOUR), "xxx": (239, NEVER),
-    "right": (143, ALWAYS), "w": (148, ALWAYS), "x": (153, ALWAYS), "down": (157, ALWAYS), "y": (162, ALWAYS), "z": (167, ALWAYS),
+    "set": (128, AT_FOUR),
+    "put": (133, AT_FOUR),
+    "fnt": (235, AT_FOUR),
+    "fnt_def": (243, AT_FOUR),
+    "xxx": (239, NEVER),
+    "right": (143, ALWAYS),
+    "w": (148, ALWAYS),
+    "x": (153, ALWAYS),
+    "down": (157, ALWAYS),
+    "y": (162, ALWAYS),
+    "z": (167, ALWAYS),
 }
 # The instructions without: the code, and how many bytes follow.
-PLAIN = {name: (code, 0) for name, code in zip("nop eop push pop w0 x0 y0 z0".split(), (138, 140, 141, 142, 147, 152, 161, 166))}
+PLAIN = {
+    name: (code, 0)
+    for name, code in zip(
+        "nop eop push pop w0 x0 y0 z0".split(), (138, 140, 141, 142, 147, 152, 161, 166)
+    )
+}
 PLAIN |= {"set_rule": (132, 8), "put_rule": (137, 8), "bop": (139, 44)}
 PLAIN |= {"pre": (247, 14), "post": (248, 28), "post_post": (249, 5)}
 # Of each code its instruction, the size of the number, whether this has a sign, and the bytes that follow.
-CODES = [("set_char", 0, False, 0)] * 128 + [("", 0, False, 0)] * 43 + [("fnt_num", 0, False, 0)] * 64 + [("", 0, False, 0)] * 15
+CODES = (
+    [("set_char", 0, False, 0)] * 128
+    + [("", 0, False, 0)] * 43
+    + [("fnt_num", 0, False, 0)] * 64
+    + [("", 0, False, 0)] * 15
+)
 for NAME, (CODE, SIGNS) in NUMBERED.items():
-    CODES[CODE:CODE + 4] = [(NAME, at + 1, sign, 14 if NAME == "fnt_def" else 0) for at, sign in enumerate(SIGNS)]
+    CODES[CODE : CODE + 4] = [
+        (NAME, at + 1, sign, 14 if NAME == "fnt_def" else 0) for at, sign in enumerate(SIGNS)
+    ]
 for NAME, (CODE, SIZE) in PLAIN.items():
     CODES[CODE] = (NAME, 0, False, SIZE)
 # The instructions of which more bytes follow, and where among the others the lengths of these are; that of xxx is its number.
 WITH_LENGTHS = {"xxx": (), "fnt_def": (12, 13), "pre": (13,)}
 # Each movement: its direction, and the register that it sets or takes.
 MOVES: Dict[str, Tuple[str, Optional[str]]] = {"right": ("h", None), "down": ("v", None)}
-MOVES |= {name + zero: (direction, name) for direction, names in (("h", "wx"), ("v", "yz")) for name in names for zero in ("", "0")}
+MOVES |= {
+    name + zero: (direction, name)
+    for direction, names in (("h", "wx"), ("v", "yz"))
+    for name in names
+    for zero in ("", "0")
+}
 
 
 def require(holds, place, cause):
@@ -41,6 +67,7 @@ def require(holds, place, cause):
 
 class Instruction(NamedTuple):
     """An instruction: its place, its name, its number, the place of the bytes after that, and its end."""
+
     place: int
     name: str
     number: int
@@ -54,7 +81,7 @@ def instruction_at(data, place, limit):
     require(code < 250, place, "Opcode")
     name, size, has_sign, more = CODES[code]
     rest = place + 1 + size
-    number = int.from_bytes(data[place + 1:rest], "big", signed=has_sign) if size else code
+    number = int.from_bytes(data[place + 1 : rest], "big", signed=has_sign) if size else code
     if rest + more <= limit and name in WITH_LENGTHS:
         more += number if name == "xxx" else sum(data[rest + it] for it in WITH_LENGTHS[name])
     require(rest + more <= limit, place, "Truncated")
@@ -65,6 +92,7 @@ def instruction_at(data, place, limit):
 class Front:
     """What is known of a file before its pages are read: the places of post, of post_post and of the bops, the stack depth, and the numbers that are
     defined after post."""
+
     post: int
     end: int
     bops: frozenset
@@ -75,8 +103,12 @@ class Front:
 def chain_of(data, post):
     """The places of the bops, by the pointers from post back."""
     bops, at, limit = [], post + 1, post
-    while (place := signed(data[at:at + 4])) != -1:
-        require(0 <= place and place + BOP_SIZE <= limit and data[place] == PLAIN["bop"][0], at, "Pointer")
+    while (place := signed(data[at : at + 4])) != -1:
+        require(
+            0 <= place and place + BOP_SIZE <= limit and data[place] == PLAIN["bop"][0],
+            at,
+            "Pointer",
+        )
         bops.append(place)
         at, limit = place + 41, place
     return frozenset(bops)
@@ -108,14 +140,18 @@ def front_of(data):
     last = len(data.rstrip(b"\xdf")) - 1
     require(len(data) - 1 - last >= 4 and last >= 5, len(data), "Trailer")
     require(data[last] == 2, last, "Version")
-    end, post = last - 5, signed(data[last - 4:last])
+    end, post = last - 5, signed(data[last - 4 : last])
     require(data[end] == PLAIN["post_post"][0], end, "Opcode")
-    require(0 <= post and post + POST_SIZE <= end and data[post] == PLAIN["post"][0], last - 4, "Pointer")
-    bops, units = chain_of(data, post), data[post + 5:post + 17]
-    depth, pages = (int.from_bytes(data[post + it:post + it + 2], "big") for it in (25, 27))
+    require(
+        0 <= post and post + POST_SIZE <= end and data[post] == PLAIN["post"][0],
+        last - 4,
+        "Pointer",
+    )
+    bops, units = chain_of(data, post), data[post + 5 : post + 17]
+    depth, pages = (int.from_bytes(data[post + it : post + it + 2], "big") for it in (25, 27))
     require(len(bops) % 65536 == pages, post, "Count")
     is_pre = data[:2] == b"\xf7\x02" and data[2:14] == units and 15 + data[14] <= post
-    require(is_pre and all(signed(units[it:it + 4]) > 0 for it in (0, 4, 8)), 0, "Preamble")
+    require(is_pre and all(signed(units[it : it + 4]) > 0 for it in (0, 4, 8)), 0, "Preamble")
     return Front(post, end, bops, depth, numbers_after(data, post + POST_SIZE, end))
 
 
@@ -167,7 +203,9 @@ class Reader:
 
     def rule(self, it):
         """Sets or puts a rule."""
-        height, width = signed(self.data[it.rest:it.rest + 4]), signed(self.data[it.rest + 4:it.end])
+        height, width = signed(self.data[it.rest : it.rest + 4]), signed(
+            self.data[it.rest + 4 : it.end]
+        )
         if height > 0 and width > 0:
             self.lines.append(f"rule {self.numbers['h']} {self.numbers['v']} {height} {width}")
         if it.name == "set_rule":
@@ -175,13 +213,16 @@ class Reader:
 
     def special(self, it):
         """A special, whose text a listing has in another form."""
-        text = "".join(chr(byte) if 32 <= byte <= 126 and byte != 92 else f"\\{byte:02x}" for byte in self.data[it.rest:it.end])
+        text = "".join(
+            chr(byte) if 32 <= byte <= 126 and byte != 92 else f"\\{byte:02x}"
+            for byte in self.data[it.rest : it.end]
+        )
         self.lines.append(f"special {self.numbers['h']} {self.numbers['v']} {text}")
 
     def bop(self, it):
         """Begins a page."""
         require(it.place in self.front.bops, it.place, "Pointer")
-        counts = (signed(self.data[at:at + 4]) for at in range(it.rest, it.rest + 40, 4))
+        counts = (signed(self.data[at : at + 4]) for at in range(it.rest, it.rest + 40, 4))
         self.pages, self.numbers, self.font = self.pages + 1, dict.fromkeys("hvwxyz", 0), None
         self.lines.append(f"page {self.pages} counts {' '.join(map(str, counts))}")
 
@@ -206,7 +247,7 @@ class Reader:
         require(number in self.defined and number in self.front.after, it.place, "Font")
         if number not in self.widths:
             fields = self.defined[number]
-            name = fields[14 + fields[12]:]
+            name = fields[14 + fields[12] :]
             if name not in self.fonts:
                 raise Refused("4 NoFont")
             self.widths[number] = widths_of(self.fonts[name], signed(fields[4:8]))
@@ -214,23 +255,32 @@ class Reader:
 
     def define(self, it):
         """Defines a font, as its number was defined first."""
-        fields = self.data[it.rest:it.end]
+        fields = self.data[it.rest : it.end]
         is_size = 1 <= signed(fields[4:8]) <= LARGEST_SIZE
         require(is_size and self.defined.setdefault(it.number, fields) == fields, it.place, "Font")
 
 
 TAKES = {
-    **dict.fromkeys(("set_char", "set", "put"), Reader.glyph), **dict.fromkeys(("set_rule", "put_rule"), Reader.rule),
-    **dict.fromkeys(MOVES, Reader.move), **dict.fromkeys(("fnt_num", "fnt"), Reader.select),
-    "nop": lambda reader, it: None, "bop": Reader.bop, "eop": Reader.eop, "push": Reader.push, "pop": Reader.pop,
-    "xxx": Reader.special, "fnt_def": Reader.define,
+    **dict.fromkeys(("set_char", "set", "put"), Reader.glyph),
+    **dict.fromkeys(("set_rule", "put_rule"), Reader.rule),
+    **dict.fromkeys(MOVES, Reader.move),
+    **dict.fromkeys(("fnt_num", "fnt"), Reader.select),
+    "nop": lambda reader, it: None,
+    "bop": Reader.bop,
+    "eop": Reader.eop,
+    "push": Reader.push,
+    "pop": Reader.pop,
+    "xxx": Reader.special,
+    "fnt_def": Reader.define,
 }
 INSIDE = {*TAKES} - {"bop"}
 
 
 def word_of(name):
     """A name or an area as one word of `fonts`."""
-    return "".join(chr(byte) if 33 <= byte <= 126 and byte != 92 else f"\\{byte:02x}" for byte in name)
+    return "".join(
+        chr(byte) if 33 <= byte <= 126 and byte != 92 else f"\\{byte:02x}" for byte in name
+    )
 
 
 def definitions_after(data):
@@ -240,7 +290,7 @@ def definitions_after(data):
     reader.walk(place, end, OUTSIDE)
     while place < end:
         it = instruction_at(data, place, end)
-        found += [(it.number, data[it.rest:it.end])] if it.name == "fnt_def" else []
+        found += [(it.number, data[it.rest : it.end])] if it.name == "fnt_def" else []
         place = it.end
     return found
 
@@ -258,10 +308,14 @@ def fonts_of_file(data):
     except Refused as refusal:
         return f"refused {refusal}\n".encode(), False
     post = front_of(data).post
-    lines = [f"units {' '.join(str(signed(data[at:at + 4])) for at in range(post + 5, post + 17, 4))}"]
+    lines = [
+        f"units {' '.join(str(signed(data[at:at + 4])) for at in range(post + 5, post + 17, 4))}"
+    ]
     for number, fields in definitions:
         area, name, size, design_size, check_sum = parts_of(fields)
-        lines.append(f"font {number} {word_of(name) or chr(92)} {size} {design_size} {check_sum.hex()} {word_of(area)}".rstrip())
+        lines.append(
+            f"font {number} {word_of(name) or chr(92)} {size} {design_size} {check_sum.hex()} {word_of(area)}".rstrip()
+        )
     return "".join(f"{it}\n" for it in lines).encode(), True
 
 

@@ -15,6 +15,7 @@ NO_PAGE = b"\xff\xff\xff\xff"
 @dataclass(frozen=True)
 class Move:
     """A movement in one of the two directions."""
+
     direction: str
     amount: int
 
@@ -22,6 +23,7 @@ class Move:
 @dataclass(frozen=True)
 class Codes:
     """The codes of the movements of a direction: without a register, and for each register that of w0 (x0, y0, z0)."""
+
     plain: int
     registers: tuple
 
@@ -32,6 +34,7 @@ CODES = {"right": Codes(143, (147, 152)), "down": Codes(157, (161, 166))}
 @dataclass(frozen=True)
 class Font:
     """A font as the file defines it. Sizes are in scaled points."""
+
     number: int
     name: bytes
     size: int = 655360
@@ -43,6 +46,7 @@ class Font:
 @dataclass(frozen=True)
 class Page:
     """A page: its body, its ten counts, and the fonts that are defined before it."""
+
     body: list
     counts: tuple = (0,) * 10
     new_fonts: tuple = ()
@@ -51,6 +55,7 @@ class Page:
 @dataclass(frozen=True)
 class DviFile:
     """The bytes of a file, the place after the eop of each page, and the place of post."""
+
     data: bytes
     page_ends: tuple
     post: int
@@ -119,7 +124,14 @@ def definition(font):
     """fnt_def1 to fnt_def4."""
     operand = unsigned(font.number)
     sizes = number(font.check_sum, 4) + number(font.size, 4) + number(font.design_size, 4)
-    return bytes([242 + len(operand)]) + operand + sizes + bytes([len(font.area), len(font.name)]) + font.area + font.name
+    return (
+        bytes([242 + len(operand)])
+        + operand
+        + sizes
+        + bytes([len(font.area), len(font.name)])
+        + font.area
+        + font.name
+    )
 
 
 def pruned(body):

@@ -17,7 +17,9 @@ from common.outcome import Wrong
 
 ALONE = b"refused 1 OutOfMemory\n"
 WANTS_MEMORY, FAILED, OVER = "refused 1 OutOfMemory", "refused 18 Device", "refused 19 JobOver"
-MAY_TAKE_MEMORY = {*"font hbox vbox vtop par end text char rule kern glue penalty special ship box copy unhbox unhcopy unvbox unvcopy vsplit".split()}
+MAY_TAKE_MEMORY = {
+    *"font hbox vbox vtop par end text char rule kern glue penalty special ship box copy unhbox unhcopy unvbox unvcopy vsplit".split()
+}
 NOTHING, WHOLE, COMMAND, DEVICE, END, END_DEVICE, TEXTS, STOPPED = list("nwcdefts")
 # Only the room for the words, if there are any, is replaced later. The device grows only when its room is used up. A line is answered as soon as it was run,
 # so the texts grow between the commands; a run on a device in memory shows no difference between such a growth and one before the run. Each answer takes room for
@@ -32,13 +34,19 @@ ORDER_OF_A_READING = re.compile("n+w?n+")
 def order_of(name, task):
     """The order of the kinds in runs of a script by a task, or in memory."""
     whole = WHOLE_RUNS.get(name, "w?")
-    return re.compile({None: f"n+[cdn]*{whole}[cdn]*c[cdn]*d[cdn]*e+f?n*", "typeset": f"n+w?n+[ct]*{whole}[ct]*c[ct]*e+t*",
-                       "session": f"n+w?n+[cs]*{whole}[cs]*c[cs]*e+"}[task])
+    return re.compile(
+        {
+            None: f"n+[cdn]*{whole}[cdn]*c[cdn]*d[cdn]*e+f?n*",
+            "typeset": f"n+w?n+[ct]*{whole}[ct]*c[ct]*e+t*",
+            "session": f"n+w?n+[cs]*{whole}[cs]*c[cs]*e+",
+        }[task]
+    )
 
 
 @dataclass(frozen=True)
 class Ended:
     """The result of a run: its status, its output, and the file that it wrote, which is empty if there is none."""
+
     status: int
     output: bytes
     errors: bytes
@@ -48,6 +56,7 @@ class Ended:
 @dataclass(frozen=True)
 class Answered:
     """A run by its answers: the reply of each line with a command, the end, and the bytes that the device took."""
+
     replies: dict
     end: str
     data: bytes
@@ -56,6 +65,7 @@ class Answered:
 @dataclass(frozen=True)
 class Kind:
     """The letter of a kind, and the line of the command that met the refused growth, if one did."""
+
     letter: str
     line: int = 0
 
@@ -67,12 +77,20 @@ def answered(ended):
         raise Wrong(f"there is no end: {ended.output[-200:]!r}")
     end, _, digits = digits.partition(b"\n")
     replies = (line.split(": ", 1) for line in head.decode().splitlines())
-    return Answered({int(number): reply for number, reply in replies}, end.decode(), ended.made + bytes.fromhex(digits.decode()))
+    return Answered(
+        {int(number): reply for number, reply in replies},
+        end.decode(),
+        ended.made + bytes.fromhex(digits.decode()),
+    )
 
 
 def boxes_into_registers(script):
     """The lines of the commands `end` that put their box into a register: these take no memory. A refused one leaves its list open."""
-    refused = {int(line.partition(b":")[0]) for line in script.answers.splitlines() if re.match(rb"\d+: refused ", line)}
+    refused = {
+        int(line.partition(b":")[0])
+        for line in script.answers.splitlines()
+        if re.match(rb"\d+: refused ", line)
+    }
     opened, found = [], set()
     for at, line in enumerate(script.lines, 1):
         word = line.split()[0]
@@ -99,7 +117,7 @@ def of_command(script, line, run, without):
 
 def front(script, pages):
     """The bytes of the first pages of a script."""
-    return script.file[:script.page_ends[pages - 1]] if pages else b""
+    return script.file[: script.page_ends[pages - 1]] if pages else b""
 
 
 def of_device(script, line, run, whole):
@@ -109,7 +127,9 @@ def of_device(script, line, run, whole):
         raise Wrong(f"the device failed in line {line}, which ships nothing")
     replies = {at: reply if at < line else OVER for at, reply in whole.replies.items()}
     if run != Answered({**replies, line: FAILED}, OVER, front(script, int(shipped.group(1)) - 1)):
-        raise Wrong(f"the device failed in line {line}, and the rest is not that of a job that is over")
+        raise Wrong(
+            f"the device failed in line {line}, and the rest is not that of a job that is over"
+        )
     return Kind(DEVICE, line)
 
 
@@ -131,8 +151,14 @@ def of_no_answers(ended, whole):
 def of_stopped(script, ended):
     """A session stopped for memory: the answers before are those of a beginning of the script, and the file has their pages."""
     said = ended.output.removesuffix(ALONE)
-    if not script.answers.startswith(said) or said[-1:] not in (b"", b"\n") or ended.made != front(script, said.count(b": shipped ")):
-        raise Wrong(f"a session stopped after {said[-100:]!r}, and its file has {len(ended.made)} bytes")
+    if (
+        not script.answers.startswith(said)
+        or said[-1:] not in (b"", b"\n")
+        or ended.made != front(script, said.count(b": shipped "))
+    ):
+        raise Wrong(
+            f"a session stopped after {said[-100:]!r}, and its file has {len(ended.made)} bytes"
+        )
     return Kind(STOPPED if said else NOTHING)
 
 
@@ -140,7 +166,12 @@ def kind_of(script, ended, whole, without):
     """The kind of a run in which one growth was refused. `whole` are the answers without a refusal, `without` those without the command of a line."""
     if ended.status not in (0, 1) or ended.errors:
         raise Wrong(f"the status is {ended.status}, standard error {ended.errors[:200]!r}")
-    if script.words[:1] == ("session",) and ended.output.endswith(ALONE) and ended.status == 1 and b"end: " not in ended.output:
+    if (
+        script.words[:1] == ("session",)
+        and ended.output.endswith(ALONE)
+        and ended.status == 1
+        and b"end: " not in ended.output
+    ):
         return of_stopped(script, ended)
     if ended.output == ALONE and ended.status == 1:
         return of_no_answers(ended, whole)

@@ -27,65 +27,160 @@ def line_of(height, *parts):
 
 def column(*heights):
     """Rules 10pt wide at the left edge: pairs of the distance of its corner below that of the rule before, and its height."""
-    return [part for below, height in heights for part in (down(below * PT), put_rule(height * PT, 10 * PT))]
+    return [
+        part
+        for below, height in heights
+        for part in (down(below * PT), put_rule(height * PT, 10 * PT))
+    ]
 
 
 # By script: its pages, and their greatest height plus depth and width in points.
 PAGES = {
     "one_rule_page": ([Page(ONE_RULE), Page(ONE_RULE, (7, *[0] * 9))], 1, 1),
-    "lig_and_kern_words": ([
-        Page(line_of(5, E), new_fonts=(AT_10PT,)), Page(line_of(5, A, right(-40960), C)), Page(line_of(5, A, C)), Page(line_of(5, D, A, B)),
-    ], 7.5, 20),
-    "least_demerits_paragraph": ([Page([
-        [down(PT), set_rule(PT, 10 * PT), right(20 * PT), set_rule(PT, 10 * PT)],
-        [down(13 * PT), set_rule(PT, 10 * PT), right(5 * PT), set_rule(PT, 25 * PT)],
-        [down(25 * PT), set_rule(PT, 30 * PT)],
-    ])], 25, 40),
-    "a_line_too_large": ([Page([[down((1 + 12 * at) * PT), set_rule(PT, 10 * PT)] for at in range(61)])], 721, 10),
-    "fonts_in_nested_boxes": ([
-        Page(NESTED_BOXES, new_fonts=(AT_10PT, AT_20PT)),
-        Page([NESTED_BOXES, right(25 * PT), *NESTED_BOXES]),
-    ], 15, 50),
-    "refusals_leave_the_job": ([Page([[[[[down(PT), put_rule(PT, 2 * PT)]]]], right(2 * PT), down(PT), RULE])], 1, 3),
-    "splits": ([Page(column(*it)) for it in (
-        ((5, 5), (7, 5)), ((10, 5),), ((5, 5), (6, 5)), ((10, 5),), ((30, 30),), ((30, 30),),
-    )], 30, 10),
-    "specials": ([
-        Page([SPECIALS, right(PT), *SPECIALS, special(b"c")]),
-        Page([special(b"d"), SPECIALS, down(PT), special(b"e")]),
-        Page([special(b"f"), down(10 * PT), put_rule(PT, PT)]),
-    ], 10, 2),
-    "columns_of_characters": ([Page([
-        [down(5 * PT), select(0), A, B], [down(19 * PT), A, B], [down(53 * PT // 2), A, B], [down(81 * PT // 2), A, B],
-    ], new_fonts=(AT_10PT,))], 43, 10),
+    "lig_and_kern_words": (
+        [
+            Page(line_of(5, E), new_fonts=(AT_10PT,)),
+            Page(line_of(5, A, right(-40960), C)),
+            Page(line_of(5, A, C)),
+            Page(line_of(5, D, A, B)),
+        ],
+        7.5,
+        20,
+    ),
+    "least_demerits_paragraph": (
+        [
+            Page(
+                [
+                    [down(PT), set_rule(PT, 10 * PT), right(20 * PT), set_rule(PT, 10 * PT)],
+                    [down(13 * PT), set_rule(PT, 10 * PT), right(5 * PT), set_rule(PT, 25 * PT)],
+                    [down(25 * PT), set_rule(PT, 30 * PT)],
+                ]
+            )
+        ],
+        25,
+        40,
+    ),
+    "a_line_too_large": (
+        [Page([[down((1 + 12 * at) * PT), set_rule(PT, 10 * PT)] for at in range(61)])],
+        721,
+        10,
+    ),
+    "fonts_in_nested_boxes": (
+        [
+            Page(NESTED_BOXES, new_fonts=(AT_10PT, AT_20PT)),
+            Page([NESTED_BOXES, right(25 * PT), *NESTED_BOXES]),
+        ],
+        15,
+        50,
+    ),
+    "refusals_leave_the_job": (
+        [Page([[[[[down(PT), put_rule(PT, 2 * PT)]]]], right(2 * PT), down(PT), RULE])],
+        1,
+        3,
+    ),
+    "splits": (
+        [
+            Page(column(*it))
+            for it in (
+                ((5, 5), (7, 5)),
+                ((10, 5),),
+                ((5, 5), (6, 5)),
+                ((10, 5),),
+                ((30, 30),),
+                ((30, 30),),
+            )
+        ],
+        30,
+        10,
+    ),
+    "specials": (
+        [
+            Page([SPECIALS, right(PT), *SPECIALS, special(b"c")]),
+            Page([special(b"d"), SPECIALS, down(PT), special(b"e")]),
+            Page([special(b"f"), down(10 * PT), put_rule(PT, PT)]),
+        ],
+        10,
+        2,
+    ),
+    "columns_of_characters": (
+        [
+            Page(
+                [
+                    [down(5 * PT), select(0), A, B],
+                    [down(19 * PT), A, B],
+                    [down(53 * PT // 2), A, B],
+                    [down(81 * PT // 2), A, B],
+                ],
+                new_fonts=(AT_10PT,),
+            )
+        ],
+        43,
+        10,
+    ),
     "many_lines": ([Page(ONE_RULE), Page(ONE_RULE)], 1, 1),
     "a_long_line": ([Page([down(PT), special(b"s" * 65535), RULE])], 1, 1),
 }
 FONTS = ("tiny=tiny.tfm",)
 WITH_FONTS = ("lig_and_kern_words", "fonts_in_nested_boxes", "columns_of_characters")
 # Scripts that are made here, by pairs of a command and its answer: so many lines that they are kept in two blocks, and a line of two readings of a session.
-OPEN, RULE_ROWS = ("hbox into 0", "ok"), (("rule 1pt 1pt 0pt", "ok"), ("end", "packed 1.0pt 1.0pt 0.0pt badness 0"))
+OPEN, RULE_ROWS = ("hbox into 0", "ok"), (
+    ("rule 1pt 1pt 0pt", "ok"),
+    ("end", "packed 1.0pt 1.0pt 0.0pt badness 0"),
+)
 MADE = {
-    "many_lines": (OPEN, *RULE_ROWS, ("ship 0", "shipped 1"), *[("void 1", "ok")] * 8192, OPEN, *RULE_ROWS, ("ship 0", "shipped 2")),
+    "many_lines": (
+        OPEN,
+        *RULE_ROWS,
+        ("ship 0", "shipped 1"),
+        *[("void 1", "ok")] * 8192,
+        OPEN,
+        *RULE_ROWS,
+        ("ship 0", "shipped 2"),
+    ),
     "a_long_line": (OPEN, ("special " + "s" * 65535, "ok"), *RULE_ROWS, ("ship 0", "shipped 1")),
 }
 # The files that are read: those of the shorter scripts of the same names, without the pages after the first.
 ONE_RULE_FILE = dvi_file([Page(ONE_RULE)], PT, PT).data
-NESTED_BOXES_FILE = dvi_file([Page(NESTED_BOXES, new_fonts=(AT_10PT, AT_20PT))], 15 * PT, 25 * PT).data
+NESTED_BOXES_FILE = dvi_file(
+    [Page(NESTED_BOXES, new_fonts=(AT_10PT, AT_20PT))], 15 * PT, 25 * PT
+).data
 PAINT = ("paint", "--page", "1", "--dpi", "72", "--width", "3", "--height", "3", "f.dvi")
 BLANK, BLACK = b"P1\n3 3\n000\n000\n000\n", b"P1\n3 3\n000\n100\n000\n"
-LISTING = (
-    b"page 1 counts 0 0 0 0 0 0 0 0 0 0\nglyph 0 99 0 655360\nglyph 1 98 327680 655360\nglyph 1 99 983040 655360\n"
-)
+LISTING = b"page 1 counts 0 0 0 0 0 0 0 0 0 0\nglyph 0 99 0 655360\nglyph 1 98 327680 655360\nglyph 1 99 983040 655360\n"
 # A file of some pieces of what is read, and a listing of some pieces of what is printed.
-RULES_FILE = dvi_file([Page([down(PT), *[part for _ in range(3000) for part in (put_rule(PT, PT), right(3 * PT), down(3 * PT))]], (number, *[0] * 9)) for number in (1, 2)], PT, PT).data
-RULES = "".join(f"page {number} counts {number} 0 0 0 0 0 0 0 0 0\n" + "".join(f"rule {3 * PT * at} {PT + 3 * PT * at} {PT} {PT}\n" for at in range(3000)) for number in (1, 2)).encode()
+RULES_FILE = dvi_file(
+    [
+        Page(
+            [
+                down(PT),
+                *[
+                    part
+                    for _ in range(3000)
+                    for part in (put_rule(PT, PT), right(3 * PT), down(3 * PT))
+                ],
+            ],
+            (number, *[0] * 9),
+        )
+        for number in (1, 2)
+    ],
+    PT,
+    PT,
+).data
+RULES = "".join(
+    f"page {number} counts {number} 0 0 0 0 0 0 0 0 0\n"
+    + "".join(f"rule {3 * PT * at} {PT + 3 * PT * at} {PT} {PT}\n" for at in range(3000))
+    for number in (1, 2)
+).encode()
 SHEET = ("paint", "--page", "1", "--dpi", "72", "--width", "300", "--height", "300", "f.dvi")
 WHITE_SHEET = b"P1\n300 300\n" + (4 * (b"0" * 70 + b"\n") + b"0" * 20 + b"\n") * 300
 NESTED_FONTS = b"units 25400000 473628672 1000\nfont 0 tiny 655360 655360 00000000\nfont 1 tiny 1310720 655360 00000000\n"
 # By name: the words, the DVI file, and the output.
 READINGS = {
-    "list_one_rule_page": (("list", "f.dvi"), ONE_RULE_FILE, b"page 1 counts 0 0 0 0 0 0 0 0 0 0\nrule 0 65536 65536 65536\n"),
+    "list_one_rule_page": (
+        ("list", "f.dvi"),
+        ONE_RULE_FILE,
+        b"page 1 counts 0 0 0 0 0 0 0 0 0 0\nrule 0 65536 65536 65536\n",
+    ),
     "paint_one_rule_page": (PAINT, ONE_RULE_FILE, BLACK),
     "list_fonts_in_nested_boxes": (("list", "f.dvi", *FONTS), NESTED_BOXES_FILE, LISTING),
     "fonts_in_nested_boxes_by_name": (("fonts", "f.dvi"), NESTED_BOXES_FILE, NESTED_FONTS),
@@ -95,13 +190,16 @@ READINGS = {
 }
 # Commands of many growths, by script and line: copies that run out halfway. Each must have met more than one refused growth.
 HALFWAY = {
-    "fonts_in_nested_boxes": {14: "copy 0", 15: "unhcopy 0"}, "specials": {10: "copy 0", 11: "unhcopy 0"}, "columns_of_characters": {13: "unvcopy 1"},
+    "fonts_in_nested_boxes": {14: "copy 0", 15: "unhcopy 0"},
+    "specials": {10: "copy 0", 11: "unhcopy 0"},
+    "columns_of_characters": {13: "unvcopy 1"},
 }
 
 
 @dataclass(frozen=True)
 class Script:
     """A script: its words, its lines, its answers, its status, and the file that it writes, with the place after each page."""
+
     name: str
     words: tuple
     lines: tuple
@@ -116,13 +214,21 @@ def read_script(name, root, task):
     pages, height, width = PAGES[name]
     file = dvi_file(pages, int(height * PT), width * PT)
     if name in MADE:
-        lines, end = tuple(command for command, _ in MADE[name]), f"end: pages {len(pages)} bytes {len(file.data)}\n"
-        answers = ("".join(f"{number}: {answer}\n" for number, (_, answer) in enumerate(MADE[name], 1)) + end).encode()
+        lines, end = (
+            tuple(command for command, _ in MADE[name]),
+            f"end: pages {len(pages)} bytes {len(file.data)}\n",
+        )
+        answers = (
+            "".join(f"{number}: {answer}\n" for number, (_, answer) in enumerate(MADE[name], 1))
+            + end
+        ).encode()
     else:
         lines = tuple(read(f"{root}/tests/cases/growths/{name}.box").splitlines())
         answers = content(f"{root}/tests/cases/growths/{name}.answers")
     words = (task, "out.dvi", *(FONTS if name in WITH_FONTS else ())) if task else ()
-    return Script(name, words, lines, answers, int(b": refused " in answers), file.data, file.page_ends)
+    return Script(
+        name, words, lines, answers, int(b": refused " in answers), file.data, file.page_ends
+    )
 
 
 FILES = {"tiny.tfm": TINY}

@@ -15,6 +15,7 @@ class Refused(Exception):
 class Metrics:
     """What is needed of a file: the first character, for each character from there the index of its width, all widths, and all words that have to fit
     at a size."""
+
     first: int
     indices: tuple
     widths: tuple
@@ -35,11 +36,15 @@ def require(holds, cause):
 def counts_of(data):
     """The twelve numbers, by their names."""
     require(len(data) >= 24, "TooShort")
-    counts = {name: int.from_bytes(data[2 * at:2 * at + 2], "big") for at, name in enumerate(COUNTS)}
+    counts = {
+        name: int.from_bytes(data[2 * at : 2 * at + 2], "big") for at, name in enumerate(COUNTS)
+    }
     require(len(data) >= 4 * counts["lf"], "TooShort")
     parts = 6 + counts["lh"] + counts["ec"] - counts["bc"] + 1 + sum(counts[it] for it in TABLES)
     require(all(it < 32768 for it in counts.values()) and counts["lf"] == parts, "Counts")
-    require(counts["bc"] <= counts["ec"] + 1 and counts["ec"] <= 255 and counts["lh"] >= 2, "Counts")
+    require(
+        counts["bc"] <= counts["ec"] + 1 and counts["ec"] <= 255 and counts["lh"] >= 2, "Counts"
+    )
     require(all(counts[it] for it in ("nw", "nh", "nd", "ni")), "Counts")
     return counts
 
@@ -52,7 +57,12 @@ def is_there(characters, first, code):
 def check_character(word, counts):
     """Refuses a character's word with an index past its table."""
     width, sizes, rest, remainder = word
-    inside = width < counts["nw"] and sizes // 16 < counts["nh"] and sizes % 16 < counts["nd"] and rest // 4 < counts["ni"]
+    inside = (
+        width < counts["nw"]
+        and sizes // 16 < counts["nh"]
+        and sizes % 16 < counts["nd"]
+        and rest // 4 < counts["ni"]
+    )
     require(inside and (rest % 4 != 1 or remainder < counts["nl"]), "CharInfo")
 
 
@@ -72,12 +82,12 @@ def check_step(step, at, counts, characters):
 
 def tables_of(data, counts):
     """The words of the characters, and by the names of their numbers those of the tables."""
-    words = [data[at:at + 4] for at in range(0, 4 * counts["lf"], 4)]
+    words = [data[at : at + 4] for at in range(0, 4 * counts["lf"], 4)]
     at = 6 + counts["lh"]
-    characters = words[at:at + counts["ec"] - counts["bc"] + 1]
+    characters = words[at : at + counts["ec"] - counts["bc"] + 1]
     at, tables = at + len(characters), {}
     for name in TABLES:
-        tables[name] = words[at:at + counts[name]]
+        tables[name] = words[at : at + counts[name]]
         at += counts[name]
     return characters, tables
 
@@ -92,12 +102,17 @@ def read_metrics(data):
         check_character(word, counts)
     sizes = [tables[it] for it in ("nw", "nh", "nd", "ni")]
     space = tables["np"][1:4]
-    require(all(word[0] in (0, 255) for table in (*sizes, tables["nk"], space) for word in table), "FixWord")
+    require(
+        all(word[0] in (0, 255) for table in (*sizes, tables["nk"], space) for word in table),
+        "FixWord",
+    )
     require(all(table[0] == bytes(4) for table in sizes), "FixWord")
     for number, step in enumerate(tables["nl"]):
         check_step(step, number, counts, characters)
     sized = tuple(signed(word) for table in (*sizes[:3], tables["nk"], space) for word in table)
-    return Metrics(counts["bc"], tuple(word[0] for word in characters), tuple(map(signed, tables["nw"])), sized)
+    return Metrics(
+        counts["bc"], tuple(word[0] for word in characters), tuple(map(signed, tables["nw"])), sized
+    )
 
 
 def scaled(word, size):
@@ -112,4 +127,8 @@ def widths_at(metrics, size):
     """The widths of the characters at a size, by their codes, or raises Refused if a dimension does not fit."""
     if any(abs(scaled(word, size)) > GREATEST for word in metrics.sized):
         raise Refused("3 DimensionTooLarge")
-    return {metrics.first + at: scaled(metrics.widths[index], size) for at, index in enumerate(metrics.indices) if index}
+    return {
+        metrics.first + at: scaled(metrics.widths[index], size)
+        for at, index in enumerate(metrics.indices)
+        if index
+    }

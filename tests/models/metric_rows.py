@@ -16,6 +16,7 @@ TOKEN = re.compile(r"[()]|[^()\s]+")
 class Rows:
     """A font in words of a metric file: its design size, its check sum, its first seven parameters; by their codes the width, height, depth and italic correction of each
     character; and by pairs of codes the kern, as a word, or the character of a ligature."""
+
     design_word: int
     check_sum: int
     parameters: list
@@ -49,11 +50,18 @@ def rows_of(data):
     words, tables = tables_of(data, counts)
     entry = lambda name, at: signed(tables[name][at])
     given = [signed(it) for it in tables["np"][:7]]
-    rows = Rows(signed(data[28:32]), int.from_bytes(data[24:28], "big"), given + [0] * (7 - len(given)))
+    rows = Rows(
+        signed(data[28:32]), int.from_bytes(data[24:28], "big"), given + [0] * (7 - len(given))
+    )
     for code, (width, sizes, rest, remainder) in enumerate(words, counts["bc"]):
         if not width:
             continue
-        rows.characters[code] = entry("nw", width), entry("nh", sizes // 16), entry("nd", sizes % 16), entry("ni", rest // 4)
+        rows.characters[code] = (
+            entry("nw", width),
+            entry("nh", sizes // 16),
+            entry("nd", sizes % 16),
+            entry("ni", rest // 4),
+        )
         steps = program_of(remainder, tables["nl"]) if rest % 4 == 1 else ()
         for following, (op, last) in first_steps(steps).items():
             if op:
@@ -94,12 +102,24 @@ def rows_of_text(text):
     dimensions = next((it[1:] for it in properties if it[0] == "FONTDIMEN"), [])
     # A parameter without a name of its own is (PARAMETER D number R value).
     numbered = {int(it[2]): it[4] for it in dimensions if it[0] == "PARAMETER"}
-    given = [word_of(named(dimensions, name, numbered.get(at, "0"))) for at, name in enumerate(NAMES, 1)]
-    rows = Rows(word_of(named(properties, "DESIGNSIZE")), int(named(properties, "CHECKSUM"), 8), given)
+    given = [
+        word_of(named(dimensions, name, numbered.get(at, "0"))) for at, name in enumerate(NAMES, 1)
+    ]
+    rows = Rows(
+        word_of(named(properties, "DESIGNSIZE")), int(named(properties, "CHECKSUM"), 8), given
+    )
     for its in (it for it in properties if it[0] == "CHARACTER"):
         code, sizes = int(its[2], 8), its[3:]
-        rows.characters[code] = tuple(word_of(named(sizes, name)) for name in ("CHARWD", "CHARHT", "CHARDP", "CHARIC"))
-        steps = [it for comment in sizes if comment[0] == "COMMENT" for it in comment[1:] if it[0] in ("LIG", "KRN")]
+        rows.characters[code] = tuple(
+            word_of(named(sizes, name)) for name in ("CHARWD", "CHARHT", "CHARDP", "CHARIC")
+        )
+        steps = [
+            it
+            for comment in sizes
+            if comment[0] == "COMMENT"
+            for it in comment[1:]
+            if it[0] in ("LIG", "KRN")
+        ]
         for following, step in first_steps((int(it[2], 8), it) for it in steps).items():
             if step[0] == "KRN":
                 rows.kerns[code, following] = word_of(step[4])
@@ -126,11 +146,15 @@ def lines_of(rows, size):
     """The lines of rows at a size; 0 is the design size."""
     size = size or rows.design_word // 16
     slant, space, stretch, shrink, *others = rows.parameters
-    spaces, measures = [size_of(it, size) for it in (space, stretch, shrink)], [measure(it, size) for it in others]
+    spaces, measures = [size_of(it, size) for it in (space, stretch, shrink)], [
+        measure(it, size) for it in others
+    ]
     yield f"size {size} {rows.design_word // 16} check {rows.check_sum} slant {slant} space {' '.join(map(str, spaces))} {' '.join(measures)}"
     for code, (width, height, depth, italic) in sorted(rows.characters.items()):
         yield f"glyph {code} {size_of(width, size)} {size_of(height, size)} {size_of(depth, size)} {measure(italic, size)}"
-    steps = {pair: f"kern {pair[0]} {pair[1]} {size_of(word, size)}" for pair, word in rows.kerns.items()}
+    steps = {
+        pair: f"kern {pair[0]} {pair[1]} {size_of(word, size)}" for pair, word in rows.kerns.items()
+    }
     steps |= {pair: f"ligature {pair[0]} {pair[1]} {code}" for pair, code in rows.ligatures.items()}
     yield from (steps[pair] for pair in sorted(steps))
 

@@ -21,4 +21,6 @@ def metric_file(width=0.5, height=0.7, depth=0.2, space=(1 / 3, 1 / 6, 1 / 9)):
     characters = [bytes([1, 0x11, 0, 0])] * 256
     widths, heights, depths = ([bytes(4), fix_word(it)] for it in (width, height, depth))
     parameters = [bytes(4), *map(fix_word, space)]
-    return metric_bytes(0, 255, [header, characters, widths, heights, depths, [bytes(4)], [], [], [], parameters])
+    return metric_bytes(
+        0, 255, [header, characters, widths, heights, depths, [bytes(4)], [], [], [], parameters]
+    )

@@ -43,7 +43,11 @@ SMALL = {2: "two", 3: "three", 4: "four", 5: "five"}
 
 def blocks(root, name="AUTHORS"):
     """The indented blocks of a document, without those in fences."""
-    found = re.findall(r"(?:^    .*\n)+", re.sub(r"^```.*?^```$", "", read(f"{root}/docs/{name}.md"), flags=re.M | re.S), re.M)
+    found = re.findall(
+        r"(?:^    .*\n)+",
+        re.sub(r"^```.*?^```$", "", read(f"{root}/docs/{name}.md"), flags=re.M | re.S),
+        re.M,
+    )
     return ["".join(line[4:] for line in it.splitlines(keepends=True)) for it in found]
 
 
@@ -61,8 +65,17 @@ class Room:
     def shell(self, text):
         """Runs commands of the shell."""
         env = {**self.env, "PATH": f"{self.folder}/bin:{os.environ['PATH']}", "cmr10": "cmr10.tfm"}
-        ran = finished(["bash", "-euo", "pipefail", "-c", text], cwd=self.folder, env=env, text=True, timeout=LIMIT)
-        require((ran.returncode, ran.stderr) == (0, ""), f"{text!r}: the status is {ran.returncode}; {(ran.stderr or ran.stdout)[-200:]!r}")
+        ran = finished(
+            ["bash", "-euo", "pipefail", "-c", text],
+            cwd=self.folder,
+            env=env,
+            text=True,
+            timeout=LIMIT,
+        )
+        require(
+            (ran.returncode, ran.stderr) == (0, ""),
+            f"{text!r}: the status is {ran.returncode}; {(ran.stderr or ran.stdout)[-200:]!r}",
+        )
         return ran.stdout
 
     def text(self, name):
@@ -82,33 +95,59 @@ def solid(text):
 
 def steps_between_baselines(listing):
     """The distances of the lines on each page of a listing, each once."""
-    pages = [sorted({int(it) for it in re.findall(r"^glyph \d+ \d+ \S+ (\S+)$", page, re.M)}) for page in listing.split("page ")[1:]]
+    pages = [
+        sorted({int(it) for it in re.findall(r"^glyph \d+ \d+ \S+ (\S+)$", page, re.M)})
+        for page in listing.split("page ")[1:]
+    ]
     return {lower - upper for lines in pages for upper, lower in zip(lines, lines[1:])}
 
 
 def check_calls(room):
     """The calls of the document, and splits until there is no rest: all are accepted, each paragraph is on a page, and the baselines of a page are 12pt apart."""
-    calls, = re.findall(r"^```python\n(.*?)^```$", read(f"{room.root}/docs/AUTHORS.md"), re.M | re.S)
+    (calls,) = re.findall(
+        r"^```python\n(.*?)^```$", read(f"{room.root}/docs/AUTHORS.md"), re.M | re.S
+    )
     os.makedirs(f"{room.folder}/out", exist_ok=True)
-    ran = finished([sys.executable, "-c", CALLS % (TIMES, calls)], cwd=room.folder, env=room.env, text=True, timeout=LIMIT)
-    require((ran.returncode, ran.stderr) == (0, ""), f"the calls of the document: {ran.stderr[-200:]!r}")
-    pages, listing = room.pages("calls"), run(room.program, room.folder, ["list", "out/calls.dvi", "cmr10=cmr10.tfm"])
-    require(len(pages) > 1 and "".join(pages) == "Anewparagraph." * TIMES, f"the calls of the document make the pages {pages}")
+    ran = finished(
+        [sys.executable, "-c", CALLS % (TIMES, calls)],
+        cwd=room.folder,
+        env=room.env,
+        text=True,
+        timeout=LIMIT,
+    )
+    require(
+        (ran.returncode, ran.stderr) == (0, ""), f"the calls of the document: {ran.stderr[-200:]!r}"
+    )
+    pages, listing = room.pages("calls"), run(
+        room.program, room.folder, ["list", "out/calls.dvi", "cmr10=cmr10.tfm"]
+    )
+    require(
+        len(pages) > 1 and "".join(pages) == "Anewparagraph." * TIMES,
+        f"the calls of the document make the pages {pages}",
+    )
     steps = steps_between_baselines(listing)
     require(steps == {BASELINESKIP}, f"the baselines of the document's calls are {steps} apart")
 
 
 def check_shapes(room):
     """Each letter of the text in each shape, and of the headings."""
-    text, = re.findall(r'^TEXT = """(.*?)"""', room.text("examples/layout/shapes.py"), re.M | re.S)
+    (text,) = re.findall(
+        r'^TEXT = """(.*?)"""', room.text("examples/layout/shapes.py"), re.M | re.S
+    )
     shapes = ["ragged", "centred", "hanging", "quoted", "besideapicture", "besideapicture"]
     wanted = "".join([*shapes, *[solid(text)] * len(shapes)])
-    require(sorted("".join(room.pages("shapes"))) == sorted(wanted), "the page of shapes.py does not show its texts")
+    require(
+        sorted("".join(room.pages("shapes"))) == sorted(wanted),
+        "the page of shapes.py does not show its texts",
+    )
 
 
 def check_contents(room):
     """The pages of the titles that are marked."""
-    require(room.text("out/contents.txt") == "1 Of boxes\n2 Of glue\n2 Of pages\n", f"out/contents.txt is {room.text('out/contents.txt')!r}")
+    require(
+        room.text("out/contents.txt") == "1 Of boxes\n2 Of glue\n2 Of pages\n",
+        f"out/contents.txt is {room.text('out/contents.txt')!r}",
+    )
 
 
 def check_book(room):
@@ -116,12 +155,30 @@ def check_book(room):
     text, (contents, *pages) = room.text("examples/layout/book.txt"), room.pages("book")
     titles, notes = re.findall(r"^# (.*)$", text, re.M), re.findall(r"\^\[(.*?)\]", text)
     # The title stands in the head of the page, before the page's number, and once more below it.
-    first = {title: next(number for number, page in enumerate(pages, 2) if page.startswith(f"{solid(title)}{number}{solid(title)}")) for title in titles}
-    require(contents == "Contents1" + "".join(f"{solid(title)}{number}" for title, number in first.items()), f"the contents are {contents!r}")
+    first = {
+        title: next(
+            number
+            for number, page in enumerate(pages, 2)
+            if page.startswith(f"{solid(title)}{number}{solid(title)}")
+        )
+        for title in titles
+    }
+    require(
+        contents
+        == "Contents1" + "".join(f"{solid(title)}{number}" for title, number in first.items()),
+        f"the contents are {contents!r}",
+    )
     for number, note in enumerate(notes, 1):
         where = [page for page in pages if f"({number}){solid(note)}" in page]
-        require(len(where) == 1 and where[0].count(f"({number})") == 2, f"footnote {number} is not on the page of its mark")
-    given = re.sub(r"\^\[.*?\]", "", re.sub(r"@\[(.*?)\]", lambda it: str(first[it[1]]), text.replace("# ", "")))
+        require(
+            len(where) == 1 and where[0].count(f"({number})") == 2,
+            f"footnote {number} is not on the page of its mark",
+        )
+    given = re.sub(
+        r"\^\[.*?\]",
+        "",
+        re.sub(r"@\[(.*?)\]", lambda it: str(first[it[1]]), text.replace("# ", "")),
+    )
     shown = "".join(pages)
     for number, note in enumerate(notes, 1):
         shown = shown.replace(f"({number}){solid(note)}", "").replace(f"({number})", "")
@@ -136,22 +193,33 @@ def check_hyphens(room):
     """Each paragraph, and the same with more hyphens."""
     page, given = "".join(room.pages("hyphens")), solid(room.text("examples/layout/hyphens.txt"))
     hyphens = page.count("-") - 2 * given.count("-")
-    require(page.replace("-", "") == 2 * given.replace("-", "") and hyphens > 0, f"the page of hyphens.py does not show its text twice, with {hyphens} more hyphens")
+    require(
+        page.replace("-", "") == 2 * given.replace("-", "") and hyphens > 0,
+        f"the page of hyphens.py does not show its text twice, with {hyphens} more hyphens",
+    )
 
 
 def check_columns(room):
     """All cells and all words are there, and the columns are even."""
-    page, = room.pages("columns")
+    (page,) = room.pages("columns")
     listing = run(room.program, room.folder, ["list", "out/columns.dvi", "cmr10=cmr10.tfm"])
-    places = [tuple(map(int, it)) for it in re.findall(r"^glyph \d+ \d+ (\S+) (\S+)$", listing, re.M)]
+    places = [
+        tuple(map(int, it)) for it in re.findall(r"^glyph \d+ \d+ (\S+) (\S+)$", listing, re.M)
+    ]
     edge = max(h for h, _ in places) // 2
-    text = [it for it in places[page.index("Columnsarebalanced"):]]
+    text = [it for it in places[page.index("Columnsarebalanced") :]]
     lines = [len({v for h, v in text if (h < edge) == left}) for left in (True, False)]
     require(lines[0] - lines[1] in (0, 1) and lines[1] > 1, f"the columns have {lines} lines")
     require(page.endswith("allthathastobeknown."), "the end of the text is not on the page")
 
 
-CHECKS = {"out/shapes": check_shapes, "out/hyphens": check_hyphens, "out/book": check_book, "out/contents": check_contents, "out/columns": check_columns}
+CHECKS = {
+    "out/shapes": check_shapes,
+    "out/hyphens": check_hyphens,
+    "out/book": check_book,
+    "out/contents": check_contents,
+    "out/columns": check_columns,
+}
 
 
 def check_bytes(drawing, dvi):
@@ -160,7 +228,10 @@ def check_bytes(drawing, dvi):
     for line in drawing.splitlines():
         for part in line.split("  ")[0].split(" .. "):
             found = dvi.find(bytes.fromhex(part), place)
-            require(found >= 0 and (found == place or " .. " in line), f"the file has no {part!r} at {place}")
+            require(
+                found >= 0 and (found == place or " .. " in line),
+                f"the file has no {part!r} at {place}",
+            )
             place = found + len(bytes.fromhex(part))
     require(place == len(dvi), f"the drawing ends at {place} of {len(dvi)} bytes")
 
@@ -170,9 +241,14 @@ def tour(room):
     script, typeset, answers, _, listing, drawing, edit, tried = blocks(room.root, "TOUR")
     shown = re.search(r"^prints `(.*)` and `(.*)`\.$", read(f"{room.root}/docs/TOUR.md"), re.M)
     os.mkdir(f"{room.folder}/out")
-    require(script == read(f"{room.root}/examples/one_rule_page.box"), "the script is not that of examples/")
+    require(
+        script == read(f"{room.root}/examples/one_rule_page.box"),
+        "the script is not that of examples/",
+    )
     require(room.shell(typeset) == answers, "the answers are others")
-    require(room.shell(listing) == "".join(f"{it}\n" for it in shown.groups()), "the listing is another")
+    require(
+        room.shell(listing) == "".join(f"{it}\n" for it in shown.groups()), "the listing is another"
+    )
     check_bytes(drawing, content(f"{room.folder}/out/rule.dvi"))
     path = tried.split()[1].replace("/", "/must-fail/")
     require(edit == read(f"{room.root}/crates/{path}.edit"), "the edit is another")
@@ -204,26 +280,56 @@ session.ask("end", "kern 1")
 def asking(room):
     """asking.py gives any number of commands, and ends at a bad line."""
     os.mkdir(f"{room.folder}/out")
-    ran = finished([sys.executable, "-c", CLIENT], cwd=room.folder, env={"PATH": f"{room.folder}/bin"}, text=True, timeout=LIMIT)
+    ran = finished(
+        [sys.executable, "-c", CLIENT],
+        cwd=room.folder,
+        env={"PATH": f"{room.folder}/bin"},
+        text=True,
+        timeout=LIMIT,
+    )
     wanted = 1, "40000\n", "kern 1: refused 2 BadScript 40002 Dimension\n"
-    require((ran.returncode, ran.stdout, ran.stderr) == wanted, f"a client says {(ran.stderr or ran.stdout)[-200:]!r}")
+    require(
+        (ran.returncode, ran.stdout, ran.stderr) == wanted,
+        f"a client says {(ran.stderr or ran.stdout)[-200:]!r}",
+    )
 
 
 def times(root):
     """README.md rounds to whole minutes how long its first command takes, and to whole hours how long the proofs do."""
     gate, readme = read(f"{root}/docs/internal/GATE.md"), read(f"{root}/README.md")
-    minutes = round(int(re.search(r"(?m)^\| README's first command \| four cores of [^|]* \| (\d+) s by the clock \|", gate)[1]) / 60)
-    hours = round(int(re.search(r"(?m)^\| `bench/gate_times.py ./install --library` \| four cores of [^|]* \| (\d+) minutes,", gate)[1]) / 60)
-    said = f"in {SMALL[minutes]} minutes on four free cores", f"in {'an hour' if hours == 1 else f'{SMALL[hours]} hours'} on four cores"
+    minutes = round(
+        int(
+            re.search(
+                r"(?m)^\| README's first command \| four cores of [^|]* \| (\d+) s by the clock \|",
+                gate,
+            )[1]
+        )
+        / 60
+    )
+    hours = round(
+        int(
+            re.search(
+                r"(?m)^\| `bench/gate_times.py ./install --library` \| four cores of [^|]* \| (\d+) minutes,",
+                gate,
+            )[1]
+        )
+        / 60
+    )
+    said = (
+        f"in {SMALL[minutes]} minutes on four free cores",
+        f"in {'an hour' if hours == 1 else f'{SMALL[hours]} hours'} on four cores",
+    )
     lost = [it for it in said if it not in readme]
     return f"README.md does not say {' and '.join(lost)}" if lost else None
 
 
 def in_rooms(call, root, archive, programs):
     """Does a call in a room of each program."""
+
     def of_program(program):
         with tempfile.TemporaryDirectory(prefix="boxglue-authors-") as folder:
             call(Room(root, program, folder, archive))
+
     return on_each(programs, of_program)
 
 

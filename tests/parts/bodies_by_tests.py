@@ -28,6 +28,7 @@ WEIGHT = 3
 @dataclass(frozen=True)
 class Edit:
     """An edit: its crate, its file there, the lines that it replaces, and those that it puts there; and the names of its tests or cases, with what these say."""
+
     crate: str
     name: str
     file: str
@@ -40,14 +41,20 @@ class Edit:
     def stands_beside(self, other):
         """Whether a build may have both: they replace no line of each other, and no test or case is for both."""
         is_one_file = (self.crate, self.file) == (other.crate, other.file)
-        return not (is_one_file and {*self.old} & {*other.old}) and not {*self.tests, *self.cases} & {*other.tests, *other.cases}
+        return not (is_one_file and {*self.old} & {*other.old}) and not {
+            *self.tests,
+            *self.cases,
+        } & {*other.tests, *other.cases}
 
 
 def read_edit(path):
     """Reads an edit."""
     crate, _, name = path.split("/")[-3:]
     lines = re.findall(r"(?m)^(file|old|new|test|case|says): (.*)$", read(path))
-    file, *found = (tuple(text for word, text in lines if word == its) for its in ("file", "old", "new", "test", "case", "says"))
+    file, *found = (
+        tuple(text for word, text in lines if word == its)
+        for its in ("file", "old", "new", "test", "case", "says")
+    )
     return Edit(crate, name.removesuffix(".edit"), file[0], *found)
 
 
@@ -110,7 +117,9 @@ class Cases:
             for folder in ("tools", "include"):
                 shutil.copytree(f"{self.root}/{folder}", f"{tree}/{folder}")
             words = ["--library"] if self.program == "library" else []
-            status, _, errors = run_tried([sys.executable, f"{tree}/tools/unproved.py", *words, out], tree)
+            status, _, errors = run_tried(
+                [sys.executable, f"{tree}/tools/unproved.py", *words, out], tree
+            )
         return wrong, out, last_lines(errors) if status else None
 
     def outcome(self, edit):
@@ -123,7 +132,9 @@ class Cases:
         if found is None or isinstance(found, Skipped):
             return found or f"the case {edit.cases[0]} does not fail"
         missing = [it for it in edit.says if it not in found]
-        return f"the case {edit.cases[0]} does not say {missing[0]}, but: {found}" if missing else None
+        return (
+            f"the case {edit.cases[0]} does not say {missing[0]}, but: {found}" if missing else None
+        )
 
 
 @functools.lru_cache(None)
@@ -149,13 +160,20 @@ def builds(root, edits):
             groups.append([edit])
         else:
             group.append(edit)
-    made_together = [(kind(root, its, group), group) for (kind, its), groups in found.items() for group in groups]
+    made_together = [
+        (kind(root, its, group), group) for (kind, its), groups in found.items() for group in groups
+    ]
     return [(edit, build) for build, group in made_together for edit in group]
 
 
 def split(pairs):
     """The cases of each build."""
-    return [[*its] for _, its in itertools.groupby(pairs, lambda it: getattr(getattr(it[1], "func", None), "__self__", None))]
+    return [
+        [*its]
+        for _, its in itertools.groupby(
+            pairs, lambda it: getattr(getattr(it[1], "func", None), "__self__", None)
+        )
+    ]
 
 
 def cases(_programs, root):

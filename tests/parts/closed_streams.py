@@ -23,7 +23,9 @@ def expected(case, words, closed):
     made, pages = read(case, "made/out.dvi"), b""
     if not words:
         # The pages are printed in lines of sixteen bytes.
-        made, pages = None, b"".join(b"%s\n" % made[at:at + 16].hex().encode() for at in range(0, len(made), 16))
+        made, pages = None, b"".join(
+            b"%s\n" % made[at : at + 16].hex().encode() for at in range(0, len(made), 16)
+        )
     if "input" in closed:
         return 1, b"", b"" if "errors" in closed else b"boxglue: cannot read -\n", None
     if "output" in closed:
@@ -52,7 +54,11 @@ def wrong_in(case, words, paths, closed, program):
 def wrong_refusals(paths):
     """Says which folders a shell opens although it must not, or does not open although it may; or returns None."""
     with tempfile.TemporaryDirectory(prefix="boxglue-closed-") as folder:
-        opened = {it for it in FOLDERS if run(["/bin/sh", "-c", 'exec 3< "$0"', it], paths, (), folder).returncode == 0}
+        opened = {
+            it
+            for it in FOLDERS
+            if run(["/bin/sh", "-c", 'exec 3< "$0"', it], paths, (), folder).returncode == 0
+        }
     wanted = set(FOLDERS) - set(paths)
     return None if opened == wanted else f"a shell opens {sorted(opened)} and not {sorted(wanted)}"
 
@@ -63,6 +69,10 @@ def cases(programs, root):
         yield f"a shell, {what}", functools.partial(wrong_refusals, paths)
     case = f"{root}/tests/cases/program/typeset_a_page_to_its_file"
     sets = [it for size in range(1, 4) for it in itertools.combinations(STREAMS, size)]
-    for (task, words), (what, paths), closed in itertools.product(TASKS.items(), REFUSED.items(), sets):
+    for (task, words), (what, paths), closed in itertools.product(
+        TASKS.items(), REFUSED.items(), sets
+    ):
         call = functools.partial(wrong_in, case, words, paths, closed)
-        yield f"{task}, {what}, closed: {', '.join(closed)}", functools.partial(on_each, programs, call)
+        yield f"{task}, {what}, closed: {', '.join(closed)}", functools.partial(
+            on_each, programs, call
+        )

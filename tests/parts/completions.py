@@ -30,7 +30,11 @@ def rows(text, title):
 
 def options_of(text):
     """The long options of a help."""
-    return {option for line in rows(text, "Options") for option in re.findall(r"^ +(?:-\w, )?(--[\w-]+)", line)}
+    return {
+        option
+        for line in rows(text, "Options")
+        for option in re.findall(r"^ +(?:-\w, )?(--[\w-]+)", line)
+    }
 
 
 def words_of_help(programs, root):
@@ -68,10 +72,17 @@ def of_zsh(folder):
 
 def by_fish(folder):
     """The words that fish completes."""
+
     def asked(line):
-        ran = finished(["fish", "--no-config", "-c", FISH, f"{folder}/boxglue.fish", line], text=True)
+        ran = finished(
+            ["fish", "--no-config", "-c", FISH, f"{folder}/boxglue.fish", line], text=True
+        )
         return {it.split("\t")[0] for it in ran.stdout.splitlines()}
-    return {"": {it for it in asked("boxglue --") if it.startswith("-")}, **{use: asked(f"boxglue {use} --") for use in asked("boxglue ")}}
+
+    return {
+        "": {it for it in asked("boxglue --") if it.startswith("-")},
+        **{use: asked(f"boxglue {use} --") for use in asked("boxglue ")},
+    }
 
 
 def of_fish(folder):
@@ -81,8 +92,13 @@ def of_fish(folder):
 
     def options(use):
         none = [it for it in lines if "not __fish_seen_subcommand_from" in it and not use]
-        mine = none + [it for it in lines if "seen_subcommand_from" not in it or f"'__fish_seen_subcommand_from {use}'" in it]
+        mine = none + [
+            it
+            for it in lines
+            if "seen_subcommand_from" not in it or f"'__fish_seen_subcommand_from {use}'" in it
+        ]
         return {f"--{it}" for line in mine for it in re.findall(r" -l (\w+)", line)}
+
     return {use: options(use) for use in ["", *named]}
 
 
@@ -90,10 +106,17 @@ def of_manual(folder):
     """The words of the manual page: those of its synopsis, and `--help` and `--version`, which its options name."""
     text = read(f"{folder}/../docs/boxglue.1").replace("\\-", "-")
     synopsis, _, options = text.partition(".SH DESCRIPTION")
-    lines = [re.findall(r"boxglue +(\w+)(.*)", line) for line in synopsis.splitlines() if line.startswith(".BI")]
+    lines = [
+        re.findall(r"boxglue +(\w+)(.*)", line)
+        for line in synopsis.splitlines()
+        if line.startswith(".BI")
+    ]
     plain = {*re.findall(r"--[a-z]+", options.partition(".SH OPTIONS")[2].partition(".SH")[0])}
     both = {"--help"} & plain
-    return {"": both | {"--version"} & plain, **{use: {*re.findall(r"--[a-z]+", more)} | both for line in lines for use, more in line}}
+    return {
+        "": both | {"--version"} & plain,
+        **{use: {*re.findall(r"--[a-z]+", more)} | both for line in lines for use, more in line},
+    }
 
 
 def outcome(found, programs, root):
@@ -102,21 +125,40 @@ def outcome(found, programs, root):
     if len(wanted) < 4 or not all(wanted.values()):
         return "the help is not read"
     uses = sorted(use for use in {*words, *wanted} if words.get(use) != wanted.get(use))
-    apart = [f"{use or 'boxglue'} ({' '.join(sorted(words.get(use, set()) ^ wanted.get(use, set())))})" for use in uses]
-    return f"these are not the same in the file and in the help: {', '.join(apart)}" if apart else None
+    apart = [
+        f"{use or 'boxglue'} ({' '.join(sorted(words.get(use, set()) ^ wanted.get(use, set())))})"
+        for use in uses
+    ]
+    return (
+        f"these are not the same in the file and in the help: {', '.join(apart)}" if apart else None
+    )
 
 
 def paths_of_bash(root):
     """After a `=` bash completes a path, and no option; after an option with a number it completes nothing."""
     path, start = f"{root}/completions/boxglue.bash", f"{root}/examples/plain.t"
-    lines = [("list", "out.dvi", "plain", "=", start), ("paint", "--page", ""), ("paint", "--page", "=", "1"), ("other", "")]
+    lines = [
+        ("list", "out.dvi", "plain", "=", start),
+        ("paint", "--page", ""),
+        ("paint", "--page", "=", "1"),
+        ("other", ""),
+    ]
     found = [bash_words(path, *words) for words in lines]
-    return None if found == [{f"{root}/examples/plain.tfm"}, set(), set(), set()] else f"bash completes {found}"
+    return (
+        None
+        if found == [{f"{root}/examples/plain.tfm"}, set(), set(), set()]
+        else f"bash completes {found}"
+    )
 
 
 def cases(programs, root):
     """A case for each shell, and one for the manual page."""
-    for name, found in (("bash", of_bash), ("zsh", of_zsh), ("fish", of_fish), ("the manual page", of_manual)):
+    for name, found in (
+        ("bash", of_bash),
+        ("zsh", of_zsh),
+        ("fish", of_fish),
+        ("the manual page", of_manual),
+    ):
         yield name, partial(outcome, found, programs, root)
     yield "fish, by its own completion", lambda: lacks("fish") or outcome(by_fish, programs, root)
     yield "paths in bash", partial(paths_of_bash, root)

@@ -10,7 +10,10 @@ TITLE = "DVI files at the edges of their numbers: lengths, names, pointers, size
 NEEDS_PROGRAM = True
 SPLIT = in_turn(4)
 
-BOP, POINTER = 15, 41  # The place of a first bop without a definition before it; the place of the pointer in a bop.
+BOP, POINTER = (
+    15,
+    41,
+)  # The place of a first bop without a definition before it; the place of the pointer in a bop.
 BODY = BOP + 45
 GREATEST, LEAST = (1 << 31) - 1, -(1 << 31)
 TINY_10PT = Font(0, b"tiny")
@@ -19,7 +22,7 @@ DEFINITION = len(definition(TINY_10PT))
 
 def changed(data, at, bytes_there):
     """The bytes of a file, with some replaced at a place."""
-    return data[:at] + bytes_there + data[at + len(bytes_there):]
+    return data[:at] + bytes_there + data[at + len(bytes_there) :]
 
 
 def refused(data, place, cause):
@@ -35,18 +38,42 @@ def accepted(data, marks):
 def work(*files):
     """Lists files with the metric file `tiny`. Each has the expected output."""
     names = {f"{at}.dvi": it for at, it in enumerate(files, 1)}
-    runs = [Run(("list", name, "tiny=tiny.tfm"), stdout=(printed,), status=int(printed.startswith(b"refused"))) for name, (_, printed) in names.items()]
+    runs = [
+        Run(
+            ("list", name, "tiny=tiny.tfm"),
+            stdout=(printed,),
+            status=int(printed.startswith(b"refused")),
+        )
+        for name, (_, printed) in names.items()
+    ]
     return Work({"tiny.tfm": TINY, **{name: data for name, (data, _) in names.items()}}, runs)
 
 
 def each_special():
     """xxx1 to xxx4, each with those lengths of a list up to 70,000 that it can have; the texts have all bytes in turn. A special moves nothing.
     And one of three bytes whose line was worked out by hand."""
-    lengths = {1: (0, 1, 255), 2: (0, 1, 255, 256), 3: (0, 1, 255, 256, 70000), 4: (0, 1, 255, 256, 70000)}
-    texts = [(bytes(it % 256 for it in range(length)), size) for size, all_lengths in lengths.items() for length in all_lengths]
-    files = [accepted(dvi_file([Page([xxx(text, size), put_rule(1, 1)])], 0, 0).data, [special_mark(0, 0, text), rule_mark(0, 0, 1, 1)]) for text, size in texts]
+    lengths = {
+        1: (0, 1, 255),
+        2: (0, 1, 255, 256),
+        3: (0, 1, 255, 256, 70000),
+        4: (0, 1, 255, 256, 70000),
+    }
+    texts = [
+        (bytes(it % 256 for it in range(length)), size)
+        for size, all_lengths in lengths.items()
+        for length in all_lengths
+    ]
+    files = [
+        accepted(
+            dvi_file([Page([xxx(text, size), put_rule(1, 1)])], 0, 0).data,
+            [special_mark(0, 0, text), rule_mark(0, 0, 1, 1)],
+        )
+        for text, size in texts
+    ]
     by_hand = dvi_file([Page([bytes.fromhex("ef03615c00")])], 0, 0)
-    assert by_hand.data[BOP] == 0x8b and by_hand.data[BODY:BODY + 6] == bytes.fromhex("ef03615c008c")
+    assert by_hand.data[BOP] == 0x8B and by_hand.data[BODY : BODY + 6] == bytes.fromhex(
+        "ef03615c008c"
+    )
     return work(accepted(by_hand.data, ["special 0 0 a\\5c\\00"]), *files)
 
 
@@ -56,21 +83,34 @@ def specials_in_groups():
     marks = ["special 7 3 a\\5cb", "special -2 3  ", "special 7 0 "]
     second = [xxx(bytes([10, 13, 32, 126, 127, 255]), 1), xxx(b"z", 4)]
     file = dvi_file([Page(first), Page(second)], 0, 0)
-    return work((file.data, listed([(ZERO_COUNTS, marks), (ZERO_COUNTS, ["special 0 0 \\0a\\0d ~\\7f\\ff", "special 0 0 z"])])))
+    return work(
+        (
+            file.data,
+            listed(
+                [
+                    (ZERO_COUNTS, marks),
+                    (ZERO_COUNTS, ["special 0 0 \\0a\\0d ~\\7f\\ff", "special 0 0 z"]),
+                ]
+            ),
+        )
+    )
 
 
 def specials_between_pages():
     """A special of 18 bytes between two pages, in the place of a definition of 20 bytes."""
     file = dvi_file([Page([]), Page([], new_fonts=(TINY_10PT,))], 0, 0)
     place = file.page_ends[0]
-    assert file.data[place:place + DEFINITION] == definition(TINY_10PT) and DEFINITION == 20
+    assert file.data[place : place + DEFINITION] == definition(TINY_10PT) and DEFINITION == 20
     return work(refused(changed(file.data, place, xxx(bytes(18), 1)), place, "Opcode"))
 
 
 def painted_specials():
     """A page of a rule that is one pixel, and the same page with specials: one bitmap."""
     rule = put_rule(1, 1)
-    pages = [[rule], [xxx(b"black", 1), rule, right(PT), xxx(bytes(70000), 3), [down(PT), xxx(b"", 1)]]]
+    pages = [
+        [rule],
+        [xxx(b"black", 1), rule, right(PT), xxx(bytes(70000), 3), [down(PT), xxx(b"", 1)]],
+    ]
     files = {f"{at}.dvi": dvi_file([Page(body)], 0, 0).data for at, body in enumerate(pages, 1)}
     words = ("paint", "--page", "1", "--dpi", "72", "--width", "3", "--height", "2")
     return Work(files, [Run((*words, name), stdout=(b"P1\n3 2\n100\n000\n",)) for name in files])
@@ -79,12 +119,18 @@ def painted_specials():
 def long_specials():
     """xxx4 with lengths of 2^31 and more: the special reaches past post."""
     lengths = (1 << 31, (1 << 31) + 1, (1 << 32) - 1)
-    return work(*[refused(dvi_file([Page([b"\xf2" + number(it, 4)])], 0, 0).data, BODY, "Truncated") for it in lengths])
+    return work(
+        *[
+            refused(dvi_file([Page([b"\xf2" + number(it, 4)])], 0, 0).data, BODY, "Truncated")
+            for it in lengths
+        ]
+    )
 
 
 def cut_names():
     """Definitions whose length of the name, the byte before it, is too large. In a page the longer name takes the eop, or more bytes than there are before post;
-    after post there are fewer before post_post, and a font that a page selects is then not defined there."""
+    after post there are fewer before post_post, and a font that a page selects is then not defined there.
+    """
     in_page = dvi_file([Page([definition(TINY_10PT)])], 0, 0)
     length = BODY + DEFINITION - 5
     unused = dvi_file([Page([], new_fonts=(TINY_10PT,))], 0, 0)
@@ -96,7 +142,9 @@ def cut_names():
         refused(changed(in_page.data, length, b"\5"), in_page.post, "Opcode"),
         refused(changed(in_page.data, length, b"\6"), BODY, "Truncated"),
         accepted(unused.data, []),
-        refused(changed(unused.data, unused.post + last, b"\5"), unused.post + post_size, "Truncated"),
+        refused(
+            changed(unused.data, unused.post + last, b"\5"), unused.post + post_size, "Truncated"
+        ),
         accepted(used.data, ["glyph 0 99 0 0"]),
         refused(changed(used.data, used.post + last, b"\5"), BODY + DEFINITION, "Font"),
     )
@@ -105,7 +153,10 @@ def cut_names():
 def definitions_behind_a_bad_instruction():
     """An eop after post, before the definition of the one font. A page that selects the font is refused at the selection, since the definition counts as
     missing; otherwise the eop is what is wrong."""
-    files = [dvi_file([Page(body, new_fonts=(TINY_10PT,))], 0, 0) for body in ([select(0), set_char(99)], [])]
+    files = [
+        dvi_file([Page(body, new_fonts=(TINY_10PT,))], 0, 0)
+        for body in ([select(0), set_char(99)], [])
+    ]
     after = [it.post + 29 for it in files]  # Behind the bytes of post.
     used, unused = (it.data[:at] + b"\x8c" + it.data[at:] for it, at in zip(files, after))
     return work(refused(used, BODY + DEFINITION, "Font"), refused(unused, after[1], "Opcode"))
@@ -121,15 +172,20 @@ def negative_pointers():
 
 def pages_that_overlap():
     """Two bops of which the first one has the second among its counts. Each page is right alone: the first has a special of 15 bytes, whose length is the
-    second one's pointer. And two bops without a byte between, which the chain of pages allows: there the second is in the first one's page."""
+    second one's pointer. And two bops without a byte between, which the chain of pages allows: there the second is in the first one's page.
+    """
     count = dvi_file([Page([b"\xf2" + number(BOP, 4) + bytes(BOP)])], 0, 0)
     second = BODY + 1 - POINTER
     inner = changed(count.data, second, b"\x8b")
     both = changed(changed(inner, count.post + 1, number(second, 4)), count.post + 27, number(2, 2))
     touching = dvi_file([Page([b"\x8b" + bytes(40) + number(BOP, 4)])], 0, 0)
-    two = changed(changed(touching.data, touching.post + 1, number(BODY, 4)), touching.post + 27, number(2, 2))
-    value = int.from_bytes(inner[BOP + 1 + 4:BOP + 1 + 8], "big")
-    assert inner[second] == 0x8b and inner[second + POINTER:second + POINTER + 4] == number(BOP, 4)
+    two = changed(
+        changed(touching.data, touching.post + 1, number(BODY, 4)), touching.post + 27, number(2, 2)
+    )
+    value = int.from_bytes(inner[BOP + 1 + 4 : BOP + 1 + 8], "big")
+    assert inner[second] == 0x8B and inner[second + POINTER : second + POINTER + 4] == number(
+        BOP, 4
+    )
     counts = f"0 {value - (1 << 32)} 0 0 0 0 0 0 0 0"
     return work(
         (inner, listed([(counts, [special_mark(0, 0, bytes(BOP))])])),
@@ -154,7 +210,12 @@ def furthest_places():
     """h and v of -2^31 and of 2^31 - 1, where rules are; and h of 2^31 - 1 after a glyph, which is 5pt wide, and one more."""
     rule = put_rule(1, 1)
     ways = [(right, GREATEST), (right, LEAST), (down, GREATEST), (down, LEAST)]
-    marks = [rule_mark(GREATEST, 0, 1, 1), rule_mark(LEAST, 0, 1, 1), rule_mark(0, GREATEST, 1, 1), rule_mark(0, LEAST, 1, 1)]
+    marks = [
+        rule_mark(GREATEST, 0, 1, 1),
+        rule_mark(LEAST, 0, 1, 1),
+        rule_mark(0, GREATEST, 1, 1),
+        rule_mark(0, LEAST, 1, 1),
+    ]
     rules = dvi_file([Page([[move(by), rule] for move, by in ways])], 0, 0)
     last, wide = GREATEST - 5 * PT, [right(GREATEST - 5 * PT), select(0), set_char(99)]
     glyph = dvi_file([Page(wide, new_fonts=(TINY_10PT,))], 0, 0)

@@ -29,7 +29,11 @@ def fields(line):
 
 def commands(script):
     """The commands of a script, by the numbers of their lines."""
-    return {number: fields(line) for number, line in enumerate(script.splitlines(), 1) if line and line[0] != "%"}
+    return {
+        number: fields(line)
+        for number, line in enumerate(script.splitlines(), 1)
+        if line and line[0] != "%"
+    }
 
 
 def characters(found):
@@ -51,7 +55,10 @@ def specials(found):
 def run(program, room, words, given=""):
     """Runs a program that has to accept all, and returns its output."""
     ran = finished([program, *words], input=given, cwd=room, env={}, text=True)
-    require(ran.returncode == 0, f"{words[0]}: the status is {ran.returncode}; {(ran.stderr or ran.stdout)[-200:]!r}")
+    require(
+        ran.returncode == 0,
+        f"{words[0]}: the status is {ran.returncode}; {(ran.stderr or ran.stdout)[-200:]!r}",
+    )
     require(not ran.stderr, f"{words[0]}: standard error has {ran.stderr[:200]!r}")
     return ran.stdout
 
@@ -59,10 +66,16 @@ def run(program, room, words, given=""):
 def check_answers(answers, found, size):
     """One answer to each command, in order, none of them a refusal, and the end."""
     *lines, end = answers.splitlines()
-    require([it.partition(": ")[0] for it in lines] == [*map(str, found)], "the answers are not one a command")
+    require(
+        [it.partition(": ")[0] for it in lines] == [*map(str, found)],
+        "the answers are not one a command",
+    )
     require(not re.search("refused|missing [1-9]", answers), "something is refused or missing")
     pages = sum(words[0] == "ship" for words in found.values())
-    require(end == f"end: pages {pages} bytes {size}", f"the last answer is {end!r}; there are {pages} ships, and the file has {size} bytes")
+    require(
+        end == f"end: pages {pages} bytes {size}",
+        f"the last answer is {end!r}; there are {pages} ships, and the file has {size} bytes",
+    )
 
 
 def check_listing(listing, found):
@@ -72,14 +85,23 @@ def check_listing(listing, found):
     require(pages == [*range(1, ships + 1)], f"the pages that are listed are {pages}")
     if not COPIES & {words[0] for words in found.values()}:
         shown = [int(it) for it in re.findall(r"^glyph \d+ (\d+) ", listing, re.M)]
-        require(shown == characters(found.values()), "the glyphs that are listed are not the characters of the script")
+        require(
+            shown == characters(found.values()),
+            "the glyphs that are listed are not the characters of the script",
+        )
         texts = re.findall(r"^special \S+ \S+ (.*)$", listing, re.M)
-        require(texts == specials(found.values()), "the specials that are listed are not those of the script")
+        require(
+            texts == specials(found.values()),
+            "the specials that are listed are not those of the script",
+        )
 
 
 def check_bitmap(bitmap, width, height):
     """The form of a plain PBM of this size."""
-    require(re.fullmatch(rf"P1\n{width} {height}\n([01]{{{width}}}\n){{{height}}}", bitmap), "paint gives no bitmap of this size")
+    require(
+        re.fullmatch(rf"P1\n{width} {height}\n([01]{{{width}}}\n){{{height}}}", bitmap),
+        "paint gives no bitmap of this size",
+    )
 
 
 def check(program, script):
@@ -108,7 +130,10 @@ def outcome(programs, path):
 def pictures_of(path):
     """The pictures of a script: one for each page."""
     pages = sum(words[0] == "ship" for words in commands(read(path)).values())
-    return [f"pictures/{os.path.basename(path).removesuffix('.box')}-{page}.png" for page in range(1, pages + 1)]
+    return [
+        f"pictures/{os.path.basename(path).removesuffix('.box')}-{page}.png"
+        for page in range(1, pages + 1)
+    ]
 
 
 def check_table(folder, paths):
@@ -136,13 +161,28 @@ def client_file(program, folder, client):
         os.symlink(program, f"{room}/boxglue")
         shutil.copy(f"{os.path.dirname(folder)}/plain.tfm", room)
         env = {"PATH": f"{room}:{os.environ['PATH']}", "PYTHONDONTWRITEBYTECODE": "1"}
-        ran = finished([f"{folder}/{client}", "out.dvi", "plain.tfm"], input=text, cwd=room, env=env, text=True)
-        require((ran.returncode, ran.stderr) == (0, ""), f"the status is {ran.returncode}; {ran.stderr[-200:]!r}")
+        ran = finished(
+            [f"{folder}/{client}", "out.dvi", "plain.tfm"], input=text, cwd=room, env=env, text=True
+        )
+        require(
+            (ran.returncode, ran.stderr) == (0, ""),
+            f"the status is {ran.returncode}; {ran.stderr[-200:]!r}",
+        )
         made = content(f"{room}/out.dvi")
         pages = shown_on_pages(run(program, room, ["list", "out.dvi", "cmtt10=plain.tfm"]))
-    require(len(pages) > 2 and ran.stdout == f"end: pages {len(pages)} bytes {len(made)}\n", f"the end is {ran.stdout!r}, and {len(pages)} pages are listed")
-    require([it[-1:] for it in pages] == [[ord(str(number))] for number in range(1, len(pages) + 1)], "a page does not end in its number")
-    require([code for page in pages for code in page[:-1]] == [ord(it) for it in text if not it.isspace()], "the pages do not show the article")
+    require(
+        len(pages) > 2 and ran.stdout == f"end: pages {len(pages)} bytes {len(made)}\n",
+        f"the end is {ran.stdout!r}, and {len(pages)} pages are listed",
+    )
+    require(
+        [it[-1:] for it in pages] == [[ord(str(number))] for number in range(1, len(pages) + 1)],
+        "a page does not end in its number",
+    )
+    require(
+        [code for page in pages for code in page[:-1]]
+        == [ord(it) for it in text if not it.isspace()],
+        "the pages do not show the article",
+    )
     return made
 
 

@@ -55,12 +55,16 @@ class Refusing:
         count = ended.errors.splitlines()[-1:]
         if not count or not count[0].isdigit():
             raise Wrong(f"the growths were not counted: standard error {ended.errors[:200]!r}")
-        return Ended(ended.status, ended.output, ended.errors[:-len(count[0]) - 1], ended.made), int(count[0])
+        return Ended(
+            ended.status, ended.output, ended.errors[: -len(count[0]) - 1], ended.made
+        ), int(count[0])
 
 
 def text_without(script, line=0):
     """The text of a script in which the command of a line is taken out: the line is empty then, so the others keep their numbers."""
-    return "".join("\n" if at == line else f"{it}\n" for at, it in enumerate(script.lines, 1)).encode()
+    return "".join(
+        "\n" if at == line else f"{it}\n" for at, it in enumerate(script.lines, 1)
+    ).encode()
 
 
 def check_whole(script, ended):
@@ -68,8 +72,15 @@ def check_whole(script, ended):
     whole = answered(ended)
     answers = ended.output.partition(b"end: ")
     said = answers[0] + answers[1] + whole.end.encode() + b"\n"
-    if (said, whole.data, ended.errors, ended.status) != (script.answers, script.file, b"", script.status):
-        raise Wrong(f"with no growth refused the answers are {said[-300:]!r}, with {len(whole.data)} bytes and the status {ended.status}")
+    if (said, whole.data, ended.errors, ended.status) != (
+        script.answers,
+        script.file,
+        b"",
+        script.status,
+    ):
+        raise Wrong(
+            f"with no growth refused the answers are {said[-300:]!r}, with {len(whole.data)} bytes and the status {ended.status}"
+        )
     return whole
 
 
@@ -77,11 +88,17 @@ def kinds_of(refusing, script):
     """The kinds of the runs of a script in which each growth is refused."""
     ended, count = refusing.run_whole(script.words, text_without(script))
     whole = check_whole(script, ended)
-    without = functools.lru_cache(None)(lambda line: answered(refusing.run_whole(script.words, text_without(script, line))[0]))
+    without = functools.lru_cache(None)(
+        lambda line: answered(refusing.run_whole(script.words, text_without(script, line))[0])
+    )
     kinds = []
     for nth in range(1, count + 1):
         try:
-            kinds.append(kind_of(script, refusing.run(script.words, text_without(script), nth), whole, without))
+            kinds.append(
+                kind_of(
+                    script, refusing.run(script.words, text_without(script), nth), whole, without
+                )
+            )
         except Wrong as wrong:
             raise Wrong(f"growth {nth} of {count}: {wrong}") from wrong
     return kinds
@@ -110,7 +127,9 @@ def reading_kind(ended, printed, nth):
         return Kind(NOTHING)
     if (ended.output, ended.errors, ended.status) == (printed, b"", 0):
         return Kind(WHOLE)
-    raise Wrong(f"growth {nth}: the status is {ended.status}, and {ended.output[:200]!r} is printed")
+    raise Wrong(
+        f"growth {nth}: the status is {ended.status}, and {ended.output[:200]!r} is printed"
+    )
 
 
 def reading_wrong(program, words, data, printed):
@@ -120,7 +139,9 @@ def reading_wrong(program, words, data, printed):
         ended, count = refusing.run_whole(words, b"")
         if reading_kind(ended, printed, 0).letter != WHOLE:
             raise Wrong(f"with no growth refused {ended.output[:200]!r} is printed")
-        kinds = [reading_kind(refusing.run(words, b"", nth), printed, nth) for nth in range(1, count + 1)]
+        kinds = [
+            reading_kind(refusing.run(words, b"", nth), printed, nth) for nth in range(1, count + 1)
+        ]
     return order_wrong(kinds, growth_kinds.ORDER_OF_A_READING)
 
 
@@ -136,7 +157,17 @@ def of_reading(reading, program):
 
 def cases(programs, root):
     """The scripts of tests/cases/growths: those without a font on a device in memory, and all to a file, also as sessions; and the readings of two files."""
-    calls = {name: functools.partial(of_script, root, name, None) for name in PAGES if name not in WITH_FONTS}
-    calls.update({f"{task}_{name}": functools.partial(of_script, root, name, task) for task in ("typeset", "session") for name in PAGES})
+    calls = {
+        name: functools.partial(of_script, root, name, None)
+        for name in PAGES
+        if name not in WITH_FONTS
+    }
+    calls.update(
+        {
+            f"{task}_{name}": functools.partial(of_script, root, name, task)
+            for task in ("typeset", "session")
+            for name in PAGES
+        }
+    )
     calls.update({name: functools.partial(of_reading, it) for name, it in READINGS.items()})
     return [(name, functools.partial(on_each, programs, call)) for name, call in calls.items()]

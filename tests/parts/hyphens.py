@@ -88,7 +88,11 @@ def words_of_tex(root, archive, _program, _folder):
 def metrics(root, _archive, _program, _folder):
     """Both metric files of examples/ are what plain-metrics prints."""
     for name, words in (("plain", []), ("letters", ["--letters"])):
-        made = finished([sys.executable, "-B", f"{root}/examples/plain-metrics", *words], timeout=LIMIT, check=True).stdout
+        made = finished(
+            [sys.executable, "-B", f"{root}/examples/plain-metrics", *words],
+            timeout=LIMIT,
+            check=True,
+        ).stdout
         if made != content(f"{root}/examples/{name}.tfm"):
             return f"examples/{name}.tfm is another"
     return None
@@ -107,7 +111,9 @@ def pyphen(root, archive, _program, _folder):
 
 def time(root, archive, _program, _folder):
     """A paragraph of 400 words, of which none was seen before."""
-    words, env = python_words(root, archive, ["-B", f"{root}/tests/cases/hyphens/paragraph_time.py"])
+    words, env = python_words(
+        root, archive, ["-B", f"{root}/tests/cases/hyphens/paragraph_time.py"]
+    )
     for _ in range(TRIES):
         said, wrong = output(words, env)
         first, _, spin = [0, 0, 1] if wrong else map(float, said.split())

@@ -23,15 +23,30 @@ TRIES = False
 SPLIT = in_turn(4)
 LIMIT = 60
 # Each file that is put in place, the file of the repository that it is, and the list of all files, which says what is proved.
-PLACES = {"bin/boxglue": None, "share/man/man1/boxglue.1": "docs/boxglue.1", "share/fish/vendor_completions.d/boxglue.fish": "completions/boxglue.fish"}
-PLACES |= {"share/bash-completion/completions/boxglue": "completions/boxglue.bash", "share/zsh/site-functions/_boxglue": "completions/_boxglue"}
+PLACES = {
+    "bin/boxglue": None,
+    "share/man/man1/boxglue.1": "docs/boxglue.1",
+    "share/fish/vendor_completions.d/boxglue.fish": "completions/boxglue.fish",
+}
+PLACES |= {
+    "share/bash-completion/completions/boxglue": "completions/boxglue.bash",
+    "share/zsh/site-functions/_boxglue": "completions/_boxglue",
+}
 LIST = "share/boxglue/installed.tsv"
 # The files of the library, below the prefix; the version stands for itself, and LIBDIR for the folder of libraries.
-SHARED, STATIC, WHEEL_FILE, CARGO = KEPT = """
+(
+    SHARED,
+    STATIC,
+    WHEEL_FILE,
+    CARGO,
+) = KEPT = """
     LIBDIR/libboxglue.so.1 LIBDIR/libboxglue.a share/boxglue/python/boxglue-1-py3-none-any.whl share/boxglue/rust/Cargo.toml""".split()
-LIBRARY = {*KEPT, *"""
+LIBRARY = {
+    *KEPT,
+    *"""
     include/boxglue.h include/boxglue_typed.h share/man/man3/boxglue.3 LIBDIR/libboxglue.so.VERSION LIBDIR/libboxglue.so LIBDIR/pkgconfig/boxglue.pc
-    LIBDIR/cmake/boxglue/boxglue-config.cmake LIBDIR/cmake/boxglue/boxglue-config-version.cmake share/boxglue/rust/boxglue-sys/libdir""".split()}
+    LIBDIR/cmake/boxglue/boxglue-config.cmake LIBDIR/cmake/boxglue/boxglue-config-version.cmake share/boxglue/rust/boxglue-sys/libdir""".split(),
+}
 # Answers an empty script, as boxglue does.
 ANSWERS = "#!/bin/sh\necho end: pages 0 bytes 0\n"
 # Stands in for `rt`. `all check` takes each crate of crates.txt that has no library; one in the file `bad` is refused, and one in `slow` takes long.
@@ -83,7 +98,11 @@ COPIED = """
 
 def files_below(folder):
     """The files of a folder."""
-    return {os.path.relpath(f"{place}/{name}", folder) for place, _, names in os.walk(folder) for name in names}
+    return {
+        os.path.relpath(f"{place}/{name}", folder)
+        for place, _, names in os.walk(folder)
+        for name in names
+    }
 
 
 def check_places(prefix, root, program):
@@ -92,13 +111,17 @@ def check_places(prefix, root, program):
     require(not found, f"these files are there or not there: {sorted(found)}")
     for name, source in PLACES.items():
         mode = 0o644 if source else 0o755
-        is_right = content(f"{prefix}/{name}") == content(f"{root}/{source}" if source else program) and os.stat(f"{prefix}/{name}").st_mode & 0o777 == mode
+        is_right = (
+            content(f"{prefix}/{name}") == content(f"{root}/{source}" if source else program)
+            and os.stat(f"{prefix}/{name}").st_mode & 0o777 == mode
+        )
         require(is_right, f"{name} is not the file that it should be")
 
 
 @dataclass(frozen=True)
 class Ran:
     """How the script ended."""
+
     status: int
     output: str
     errors: str
@@ -113,7 +136,12 @@ class Ran:
 
 def install(root, words, room, path=None, **env):
     """Runs the script."""
-    ran = finished([f"{root}/install", *words], cwd=room, env={"HOME": f"{room}/home", "PATH": path or os.environ["PATH"], "ROOM": room, **env}, text=True)
+    ran = finished(
+        [f"{root}/install", *words],
+        cwd=room,
+        env={"HOME": f"{room}/home", "PATH": path or os.environ["PATH"], "ROOM": room, **env},
+        text=True,
+    )
     return Ran(ran.returncode, ran.stdout, ran.stderr)
 
 
@@ -121,10 +149,24 @@ def copies(root, words, prefix, program):
     """Installs a program twice, over itself. The installed program answers an empty script."""
     with tempfile.TemporaryDirectory(prefix="boxglue-install-") as room:
         for _ in range(2):
-            ran = install(root, [*(it.replace("ROOM", room) for it in words), "--program", os.path.relpath(program, room)], room)
-            require(ran.is_silent() and all(f"{room}/{prefix}/{it}\n" in ran.output for it in PLACES), ran)
+            ran = install(
+                root,
+                [
+                    *(it.replace("ROOM", room) for it in words),
+                    "--program",
+                    os.path.relpath(program, room),
+                ],
+                room,
+            )
+            require(
+                ran.is_silent() and all(f"{room}/{prefix}/{it}\n" in ran.output for it in PLACES),
+                ran,
+            )
         answer = finished([f"{room}/{prefix}/bin/boxglue"])
-        require((answer.returncode, answer.stdout) == (0, b"end: pages 0 bytes 0\n"), "the program that was put in place does not answer")
+        require(
+            (answer.returncode, answer.stdout) == (0, b"end: pages 0 bytes 0\n"),
+            "the program that was put in place does not answer",
+        )
         check_places(f"{room}/{prefix}", root, program)
 
 
@@ -150,9 +192,15 @@ class Site:
         self.room, self.top, self.path = room, f"{room}/top", f"{room}/bin:{os.environ['PATH']}"
         for name in COPIED:
             write(f"{self.top}/{name}", content(f"{root}/{name}"), 0o755)
-        made = {"crates.txt": CRATES, "HANDLES": "Handles allowed: none.\n", "bindings/rust/Cargo.toml": "[workspace]\n"}
+        made = {
+            "crates.txt": CRATES,
+            "HANDLES": "Handles allowed: none.\n",
+            "bindings/rust/Cargo.toml": "[workspace]\n",
+        }
         made |= {"tools/unproved.py": UNPROVED, "bindings/build": BUILD, "bindings/wheel": WHEEL}
-        made |= {f"crates/{name}/src/lib.rt": f"// {name}\n" for name in (*NAMES, "other", "boxglue_c")}
+        made |= {
+            f"crates/{name}/src/lib.rt": f"// {name}\n" for name in (*NAMES, "other", "boxglue_c")
+        }
         for name, text in made.items():
             write(f"{self.top}/{name}", text, 0o755)
         self.write("boxglue", ANSWERS)
@@ -164,25 +212,55 @@ class Site:
 
     def install(self, *words, path=None, **env):
         """Runs the script; `ROOM` in its words is the folder of all."""
-        return install(self.top, [it.replace("ROOM", self.room) for it in words], self.room, path or self.path, **env)
+        return install(
+            self.top,
+            [it.replace("ROOM", self.room) for it in words],
+            self.room,
+            path or self.path,
+            **env,
+        )
 
     def started(self):
         """Starts the script. A shell cannot trap a signal that was ignored when it began, as an interrupt is in the background jobs of a script."""
-        env, pipe = {"HOME": f"{self.room}/home", "PATH": self.path, "ROOM": self.room}, subprocess.PIPE
-        return subprocess.Popen(["env", "--default-signal=INT", f"{self.top}/install"], env=env, stdin=subprocess.DEVNULL, stdout=pipe, stderr=pipe, text=True)
+        env, pipe = {
+            "HOME": f"{self.room}/home",
+            "PATH": self.path,
+            "ROOM": self.room,
+        }, subprocess.PIPE
+        return subprocess.Popen(
+            ["env", "--default-signal=INT", f"{self.top}/install"],
+            env=env,
+            stdin=subprocess.DEVNULL,
+            stdout=pipe,
+            stderr=pipe,
+            text=True,
+        )
 
     def recorded(self, name="calls"):
         """The calls of `rt`, or the crates that it proved."""
-        return read(f"{self.room}/{name}").splitlines() if os.path.exists(f"{self.room}/{name}") else []
+        return (
+            read(f"{self.room}/{name}").splitlines()
+            if os.path.exists(f"{self.room}/{name}")
+            else []
+        )
 
     def check_kept(self, names):
         """The proved work of these crates is kept in their folders, and no other."""
-        found = [it for it in sorted(os.listdir(f"{self.top}/crates")) if os.path.exists(f"{self.top}/crates/{it}/out/rlib/stamp")]
-        require(found == sorted(names) and not os.path.exists(f"{self.top}/out/proved"), f"work is kept of {found}")
+        found = [
+            it
+            for it in sorted(os.listdir(f"{self.top}/crates"))
+            if os.path.exists(f"{self.top}/crates/{it}/out/rlib/stamp")
+        ]
+        require(
+            found == sorted(names) and not os.path.exists(f"{self.top}/out/proved"),
+            f"work is kept of {found}",
+        )
 
     def check_proofs(self, *names):
         """These crates were proved, in this order."""
-        require(self.recorded("proofs") == [*names], f"these were proved: {self.recorded('proofs')}")
+        require(
+            self.recorded("proofs") == [*names], f"these were proved: {self.recorded('proofs')}"
+        )
 
     def check_places(self):
         """The program is installed in HOME."""
@@ -190,7 +268,10 @@ class Site:
 
     def check_library(self, prefix, libdir):
         """The program and the library are installed, the libraries in a folder."""
-        found = {re.sub(r"so\.\d+\.\d+\.\d+", "so.VERSION", it) for it in files_below(f"{self.room}/{prefix}")}
+        found = {
+            re.sub(r"so\.\d+\.\d+\.\d+", "so.VERSION", it)
+            for it in files_below(f"{self.room}/{prefix}")
+        }
         wrong = sorted(found ^ {*PLACES, LIST, *(it.replace("LIBDIR", libdir) for it in LIBRARY)})
         require(not wrong, f"these files are there or not there: {wrong}")
 
@@ -207,11 +288,26 @@ def proves(site):
         ran = site.install(*words)
         require(ran.is_silent(), ran)
         lines = [it.split("] ")[1] for it in ran.output.splitlines() if it.startswith("[")]
-        proved = [name for it in lines if ": proved; " in it for name in it.split(": proved; ")[0].split(", ")]
-        is_told = lines[0].startswith("4 crates, ") and lines[-2].endswith(": proved; 0 of 4 left") and lines[-1].startswith("boxglue: built, ")
+        proved = [
+            name
+            for it in lines
+            if ": proved; " in it
+            for name in it.split(": proved; ")[0].split(", ")
+        ]
+        is_told = (
+            lines[0].startswith("4 crates, ")
+            and lines[-2].endswith(": proved; 0 of 4 left")
+            and lines[-1].startswith("boxglue: built, ")
+        )
         require(proved == NAMES and is_told, f"the lines are {lines}")
     made = "\n".join(site.recorded())
-    require(re.fullmatch(r"all check --jobs [1-9]\d* proved\nrun boxglue\nall check --jobs 3 proved\nrun boxglue", made), f"rt was called as {made!r}")
+    require(
+        re.fullmatch(
+            r"all check --jobs [1-9]\d* proved\nrun boxglue\nall check --jobs 3 proved\nrun boxglue",
+            made,
+        ),
+        f"rt was called as {made!r}",
+    )
     site.check_proofs(*NAMES, "boxglue")
     site.check_kept(NAMES[:3])
     site.check_places()
@@ -222,9 +318,17 @@ def stops_at_a_crate(site, name, before):
     site.write("bad", f"{name}\n")
     began = time.monotonic()
     ran = site.install()
-    require(ran.status == 1 and f"{name} is not proved\nthe prover says why\n" in ran.errors and time.monotonic() - began < 20, ran)
+    require(
+        ran.status == 1
+        and f"{name} is not proved\nthe prover says why\n" in ran.errors
+        and time.monotonic() - began < 20,
+        ran,
+    )
     site.check_kept(before)
-    require(len(site.recorded()) == 1 and not os.path.exists(f"{site.room}/home"), f"rt was called as {site.recorded()}")
+    require(
+        len(site.recorded()) == 1 and not os.path.exists(f"{site.room}/home"),
+        f"rt was called as {site.recorded()}",
+    )
 
 
 def stops_when_told(site, number, lines):
@@ -240,7 +344,11 @@ def stops_when_told(site, number, lines):
         finally:
             # The end of the `with` waits for it.
             started.kill()
-    is_so = started.returncode == 128 + number and time.monotonic() - began < 20 and all(line in it for line, it in zip(lines, found))
+    is_so = (
+        started.returncode == 128 + number
+        and time.monotonic() - began < 20
+        and all(line in it for line, it in zip(lines, found))
+    )
     require(is_so, f"the status is {started.returncode}, the lines {found}")
     site.check_kept(NAMES[:1])
     os.remove(f"{site.room}/slow")
@@ -260,7 +368,10 @@ def stops_without_a_reader(site):
         errors = started.stderr.read()
         started.wait(LIMIT)
     seconds = time.monotonic() - began
-    require(started.returncode and "Broken pipe" in errors and seconds < 20, f"the status is {started.returncode} after {seconds:.0f} s: {errors[-200:]!r}")
+    require(
+        started.returncode and "Broken pipe" in errors and seconds < 20,
+        f"the status is {started.returncode} after {seconds:.0f} s: {errors[-200:]!r}",
+    )
     site.check_kept(NAMES[:1])
 
 
@@ -271,7 +382,10 @@ def goes_on_after_a_kill(site):
     with open(f"{site.top}/out/proved.lock", "w", encoding="ascii") as lock:
         fcntl.flock(lock, fcntl.LOCK_EX)
         ran = site.install()
-        require(ran.status == 1 and "another ./install" in ran.errors and not site.recorded(), f"beside another run {ran}")
+        require(
+            ran.status == 1 and "another ./install" in ran.errors and not site.recorded(),
+            f"beside another run {ran}",
+        )
     ran = site.install()
     require(ran.status == 0, ran)
     site.check_proofs(*NAMES[1:])
@@ -280,12 +394,23 @@ def goes_on_after_a_kill(site):
 
 def knows_what_is_left(_root):
     """What is proved at a time, and how long it goes on, as the lines of `rt` tell it."""
-    uses = {"left": [], "right": ["left"], "other": [], "upper": ["left", "right"], "boxglue": ["upper", "other"]}
+    uses = {
+        "left": [],
+        "right": ["left"],
+        "other": [],
+        "upper": ["left", "right"],
+        "boxglue": ["upper", "other"],
+    }
     with tempfile.TemporaryDirectory(prefix="boxglue-install-") as room:
         for name in uses:
             write(f"{room}/crates/{name}/src/lib.rt", "\n")
         found, each = Progress(room, uses, 2), CRATE + LINE
-        wanted = [("", [], READING + 4 * each), ("only=0\n", ["left", "other"], 4 * each), ("== other\n", ["left"], 4 * each), ("== left\n", ["right"], 3 * each)]
+        wanted = [
+            ("", [], READING + 4 * each),
+            ("only=0\n", ["left", "other"], 4 * each),
+            ("== other\n", ["left"], 4 * each),
+            ("== left\n", ["right"], 3 * each),
+        ]
         text = ""
         for more, names, left in wanted:
             text += more
@@ -293,43 +418,79 @@ def knows_what_is_left(_root):
             if {*found.under_way()} != {*names} or abs(found.seconds_left() - left) > 1:
                 return f"after {text!r}: {found.under_way()}, {found.seconds_left()} s"
         write(f"{room}/crates/right/out/rlib/stamp", "")
-        return None if found.failed() == ["left", "other"] or found.failed() == ["other", "left"] else f"these have failed: {found.failed()}"
+        return (
+            None
+            if found.failed() == ["left", "other"] or found.failed() == ["other", "left"]
+            else f"these have failed: {found.failed()}"
+        )
 
 
 def fits_a_control_group(_root):
     """No more is proved at a time than the time and the memory that a control group leaves."""
     found, was = [], machine.GROUP
     with tempfile.TemporaryDirectory(prefix="boxglue-install-") as machine.GROUP:
-        for quota, limit in (("max", "max"), ("100000", "max"), ("max", str(2 * MEMORY)), ("50000", "0")):
+        for quota, limit in (
+            ("max", "max"),
+            ("100000", "max"),
+            ("max", str(2 * MEMORY)),
+            ("50000", "0"),
+        ):
             write(f"{machine.GROUP}/cpu.max", f"{quota} 100000\n")
             write(f"{machine.GROUP}/memory.max", f"{limit}\n")
             write(f"{machine.GROUP}/memory.stat", f"file 5\nanon {MEMORY}\n")
             found.append((machine.cores(), jobs_that_fit()))
     machine.GROUP = was
     cores = found[0][0]
-    wanted = [cores >= found[0][1] >= 1, found[1] == (1, 1), found[2] == (cores, 1), found[3] == (1, 1)]
+    wanted = [
+        cores >= found[0][1] >= 1,
+        found[1] == (1, 1),
+        found[2] == (cores, 1),
+        found[3] == (1, 1),
+    ]
     return None if all(wanted) else f"cores, and proofs at a time, are {found}"
 
 
 def builds_unproved(site):
     """Without proofs nothing is proved, and the last lines say what was built and how to have the proved program."""
     ran = site.install("--unproved", "--prefix", "ROOM/here")
-    require(ran.is_silent() and site.recorded() == ["unproved "], f"what was called is {site.recorded()}; {ran}")
+    require(
+        ran.is_silent() and site.recorded() == ["unproved "],
+        f"what was called is {site.recorded()}; {ran}",
+    )
     found = files_below(f"{site.room}/here")
-    require(found == {*PLACES, LIST} and SAYS.encode() in content(f"{site.room}/here/bin/boxglue"), f"these files are there: {sorted(found)}")
+    require(
+        found == {*PLACES, LIST} and SAYS.encode() in content(f"{site.room}/here/bin/boxglue"),
+        f"these files are there: {sorted(found)}",
+    )
     last = ran.output.splitlines()[-2:]
-    require("UNPROVED" in last[0] and last[1].endswith(f": ./install --prefix {site.room}/here"), f"the last lines are {last}")
+    require(
+        "UNPROVED" in last[0] and last[1].endswith(f": ./install --prefix {site.room}/here"),
+        f"the last lines are {last}",
+    )
 
 
 def keeps_what_is_proved(site):
     """What is unproved takes the place of what is proved with --replace alone, built now or given; what is proved takes any place."""
     site.write("unproved", f"{ANSWERS}# {SAYS}\n")
     proved, stays, goes = (0, False, False), (1, False, True), (0, True, False)
-    ways = ("--program ROOM/boxglue", proved), ("--unproved", stays), ("--program ROOM/unproved", stays), ("--unproved --replace", goes), ("--unproved", goes)
+    ways = (
+        ("--program ROOM/boxglue", proved),
+        ("--unproved", stays),
+        ("--program ROOM/unproved", stays),
+        ("--unproved --replace", goes),
+        ("--unproved", goes),
+    )
     for words, wanted in (*ways, ways[0]):
         ran = site.install(*words.split())
-        found = ran.status, SAYS.encode() in content(f"{site.room}/home/.local/bin/boxglue"), "--replace" in ran.errors
-        require(found == wanted, f"{words}: the status, whether the program is unproved, and whether --replace is named, are {found}")
+        found = (
+            ran.status,
+            SAYS.encode() in content(f"{site.room}/home/.local/bin/boxglue"),
+            "--replace" in ran.errors,
+        )
+        require(
+            found == wanted,
+            f"{words}: the status, whether the program is unproved, and whether --replace is named, are {found}",
+        )
 
 
 def puts_the_library(site):
@@ -337,34 +498,61 @@ def puts_the_library(site):
     stage = f"{site.room}/stage"
     site.write("stage/usr/share/boxglue/python/boxglue-0-py3-none-any.whl", "old\n")
     ran = site.install("--library", "--prefix", "/usr", DESTDIR=stage)
-    require(ran.status == 0 and site.recorded()[1:] == ["run boxglue", "lib boxglue_c"], f"rt was called as {site.recorded()}; {ran}")
+    require(
+        ran.status == 0 and site.recorded()[1:] == ["run boxglue", "lib boxglue_c"],
+        f"rt was called as {site.recorded()}; {ran}",
+    )
     site.check_proofs(*NAMES, "boxglue_c")
     site.check_library("stage/usr", "lib")
-    is_found = read(f"{stage}/usr/lib/pkgconfig/boxglue.pc").startswith("prefix=${pcfiledir}/../..\n") and os.listdir(stage) == ["usr"]
-    require(is_found, "boxglue.pc does not find the prefix by its own place, or a file is not below the prefix")
-    require("pip install /usr/share/boxglue/python/boxglue-1-py3-none-any.whl\n" in ran.output, f"it prints {ran.output[-300:]!r}")
+    is_found = read(f"{stage}/usr/lib/pkgconfig/boxglue.pc").startswith(
+        "prefix=${pcfiledir}/../..\n"
+    ) and os.listdir(stage) == ["usr"]
+    require(
+        is_found,
+        "boxglue.pc does not find the prefix by its own place, or a file is not below the prefix",
+    )
+    require(
+        "pip install /usr/share/boxglue/python/boxglue-1-py3-none-any.whl\n" in ran.output,
+        f"it prints {ran.output[-300:]!r}",
+    )
 
 
 def puts_the_library_elsewhere(site):
     """With --libdir the library is in another folder below the prefix, which its files and the crates find by their places; a folder elsewhere is refused."""
-    words, here = "--program ROOM/boxglue --library ROOM/boxglue --prefix ROOM/here --libdir".split(), f"{site.room}/here"
+    words, here = (
+        "--program ROOM/boxglue --library ROOM/boxglue --prefix ROOM/here --libdir".split(),
+        f"{site.room}/here",
+    )
     for wrong in ("../lib", "/lib", "."):
-        require(site.install(*words, wrong).status == 1 and not os.path.exists(here), f"--libdir {wrong} is not refused")
+        require(
+            site.install(*words, wrong).status == 1 and not os.path.exists(here),
+            f"--libdir {wrong} is not refused",
+        )
     for libdir in ("lib/some-linux", f"{here}/lib/some-linux"):
         ran = site.install(*words, libdir)
         require(ran.status == 0, ran)
         site.check_library("here", "lib/some-linux")
-    config, lines = (read(f"{here}/lib/some-linux/{it}") for it in ("cmake/boxglue/boxglue-config.cmake", "pkgconfig/boxglue.pc"))
+    config, lines = (
+        read(f"{here}/lib/some-linux/{it}")
+        for it in ("cmake/boxglue/boxglue-config.cmake", "pkgconfig/boxglue.pc")
+    )
     found = *lines.splitlines()[0:3:2], read(f"{here}/share/boxglue/rust/boxglue-sys/libdir")
-    wanted = "prefix=${pcfiledir}/../../..", "libdir=${prefix}/lib/some-linux", "../../../../lib/some-linux\n"
-    is_named = "/../../../..\"" in config and "lib/some-linux/libboxglue.a" in config
+    wanted = (
+        "prefix=${pcfiledir}/../../..",
+        "libdir=${prefix}/lib/some-linux",
+        "../../../../lib/some-linux\n",
+    )
+    is_named = '/../../../.."' in config and "lib/some-linux/libboxglue.a" in config
     require(found == wanted and is_named, f"the files name {found}, and CMake's {config}")
 
 
 def needs_no_rt(site):
     """Where program and archive are built already, no `rt` is asked for."""
     os.remove(f"{site.room}/bin/rt")
-    ran = site.install(*"--program ROOM/boxglue --library ROOM/boxglue --prefix ROOM/here".split(), path=without_rt(site.path, f"{site.room}/tools"))
+    ran = site.install(
+        *"--program ROOM/boxglue --library ROOM/boxglue --prefix ROOM/here".split(),
+        path=without_rt(site.path, f"{site.room}/tools"),
+    )
     require(ran.status == 0, ran)
     site.check_library("here", "lib")
 
@@ -387,7 +575,10 @@ def keeps_what_is_proved_of_the_library(site):
     """Each file of a proved library, its wheel and its crates stay without --replace, even where no other is left; a proved one takes the place of any."""
     site.write("unproved.a", f"{SAYS}\n")
     site.write("proved.a", "proved\n")
-    prefix, words = f"{site.room}/here", "--program ROOM/boxglue --prefix ROOM/here --library".split()
+    prefix, words = (
+        f"{site.room}/here",
+        "--program ROOM/boxglue --prefix ROOM/here --library".split(),
+    )
     names = [it.replace("LIBDIR", "lib") for it in KEPT]
     for kept in names:
         ran = site.install(*words, "ROOM/proved.a")
@@ -396,7 +587,10 @@ def keeps_what_is_proved_of_the_library(site):
             os.remove(f"{prefix}/{it}")
         before = files_below(prefix)
         ran = site.install(*words, "ROOM/unproved.a")
-        require((ran.status, "--replace" in ran.errors, files_below(prefix)) == (1, True, before), f"{kept} does not stay: {ran}")
+        require(
+            (ran.status, "--replace" in ran.errors, files_below(prefix)) == (1, True, before),
+            f"{kept} does not stay: {ran}",
+        )
         for more in (["--replace"], []):
             ran = site.install(*words, "ROOM/unproved.a", *more)
             require(ran.status == 0, f"with --replace, or after it: {ran}")
@@ -412,26 +606,57 @@ def removes(site):
         require(ran.status == 0, ran)
     remove = "--uninstall", "--prefix", "ROOM/here"
     found, again = site.install(*remove), site.install(*remove)
-    folders = {os.path.relpath(it, f"{site.room}/here") for it, _, _ in os.walk(f"{site.room}/here")}
-    require(found.status == 0 and (files_below(f"{site.room}/here"), folders) == ({"bin/other"}, {".", "bin"}), f"{folders} are left; {found}")
+    folders = {
+        os.path.relpath(it, f"{site.room}/here") for it, _, _ in os.walk(f"{site.room}/here")
+    }
+    require(
+        found.status == 0
+        and (files_below(f"{site.room}/here"), folders) == ({"bin/other"}, {".", "bin"}),
+        f"{folders} are left; {found}",
+    )
     require(again.status == 1 and "installed.tsv is not there" in again.errors, again)
     site.write(f"here/{LIST}", "text\t../outside\n")
     site.write("outside", "kept\n")
     ran = site.install(*remove)
-    require(ran.status == 1 and "is not below" in ran.errors and os.path.exists(f"{site.room}/outside"), f"a list that names a file outside: {ran}")
+    require(
+        ran.status == 1 and "is not below" in ran.errors and os.path.exists(f"{site.room}/outside"),
+        f"a list that names a file outside: {ran}",
+    )
 
 
 def cases(programs, root):
     """The cases, by name."""
-    yield "a program", partial(with_programs, partial(copies, root, ["--prefix", "ROOM/a folder"], "a folder"), programs)
-    yield "a program, without a folder", partial(with_programs, partial(copies, root, [], "home/.local"), programs)
-    yield "a file that is not there", partial(refused, root, ["--program", "absent"], "absent cannot be run")
-    yield "a file that is no program", partial(refused, root, ["--program", "given"], "given cannot be run", "end: pages 0 bytes 0\n")
-    yield "another program", partial(refused, root, ["--program", "given"], "given is not boxglue", "#!/bin/sh\necho end: pages 1 bytes 0\n")
+    yield "a program", partial(
+        with_programs, partial(copies, root, ["--prefix", "ROOM/a folder"], "a folder"), programs
+    )
+    yield "a program, without a folder", partial(
+        with_programs, partial(copies, root, [], "home/.local"), programs
+    )
+    yield "a file that is not there", partial(
+        refused, root, ["--program", "absent"], "absent cannot be run"
+    )
+    yield "a file that is no program", partial(
+        refused, root, ["--program", "given"], "given cannot be run", "end: pages 0 bytes 0\n"
+    )
+    yield "another program", partial(
+        refused,
+        root,
+        ["--program", "given"],
+        "given is not boxglue",
+        "#!/bin/sh\necho end: pages 1 bytes 0\n",
+    )
     yield "crates in order", partial(on_site, proves, root)
     yield "a crate that is not proved", partial(on_site, stops_at_a_crate, root, "right", ["left"])
-    yield "a program that is not proved", partial(on_site, stops_at_a_crate, root, "boxglue", NAMES[:3])
-    yield "an interrupt", partial(on_site, stops_when_told, root, signal.SIGINT, ["4 crates", "left: proved", "proving right; 3 of 4 left, about "])
+    yield "a program that is not proved", partial(
+        on_site, stops_at_a_crate, root, "boxglue", NAMES[:3]
+    )
+    yield "an interrupt", partial(
+        on_site,
+        stops_when_told,
+        root,
+        signal.SIGINT,
+        ["4 crates", "left: proved", "proving right; 3 of 4 left, about "],
+    )
     yield "lines that nobody reads", partial(on_site, stops_without_a_reader, root)
     yield "a kill", partial(on_site, goes_on_after_a_kill, root)
     yield "what is left", partial(knows_what_is_left, root)
@@ -441,7 +666,13 @@ def cases(programs, root):
     yield "the library", partial(on_site, puts_the_library, root)
     yield "the library in another folder", partial(on_site, puts_the_library_elsewhere, root)
     yield "the library without rt", partial(on_site, needs_no_rt, root)
-    yield "over a proved library, wheel and crates", partial(on_site, keeps_what_is_proved_of_the_library, root)
+    yield "over a proved library, wheel and crates", partial(
+        on_site, keeps_what_is_proved_of_the_library, root
+    )
     yield "all is removed", partial(on_site, removes, root)
-    yield "the end of a terminal", partial(on_site, stops_when_told, root, signal.SIGHUP, ["4 crates", "left: proved"])
-    yield "an end", partial(on_site, stops_when_told, root, signal.SIGTERM, ["4 crates", "left: proved"])
+    yield "the end of a terminal", partial(
+        on_site, stops_when_told, root, signal.SIGHUP, ["4 crates", "left: proved"]
+    )
+    yield "an end", partial(
+        on_site, stops_when_told, root, signal.SIGTERM, ["4 crates", "left: proved"]
+    )

@@ -32,9 +32,16 @@ def wrong_in(words, printed, named, program):
         made = sorted(set(os.listdir(folder)) - {"f.dvi"})
     expected = (1, printed, f"boxglue: cannot read {named}\n{READ_LIMIT}\n", [])
     found = (ran.returncode, ran.stdout, ran.stderr, made)
-    return None if found == expected else f"status, output, errors with the number of calls, and files are {found} and not {expected}"
+    return (
+        None
+        if found == expected
+        else f"status, output, errors with the number of calls, and files are {found} and not {expected}"
+    )
 
 
 def cases(programs, root):
     """The runs."""
-    return [(name, functools.partial(on_each, programs, functools.partial(wrong_in, *run))) for name, run in RUNS.items()]
+    return [
+        (name, functools.partial(on_each, programs, functools.partial(wrong_in, *run)))
+        for name, run in RUNS.items()
+    ]

@@ -18,7 +18,12 @@ PROGRAM = "library"
 NEEDS_PROGRAM = True
 SPLIT = in_turn(4)
 # Pixels an inch, width and height: rows of less than a byte, of whole bytes, and of one pixel more or less; words and one pixel more.
-SHEETS = [(*map(int, it.split()),) for it in "72 1 1,72 7 9,72 8 20,100 9 40,300 64 33,300 65 120,37 131 50,1000 257 300".split(",")]
+SHEETS = [
+    (*map(int, it.split()),)
+    for it in "72 1 1,72 7 9,72 8 20,100 9 40,300 64 33,300 65 120,37 131 50,1000 257 300".split(
+        ","
+    )
+]
 # A page of A4 at 300 dots an inch: its bitmap has 1,087,480 bytes.
 LARGE_SHEETS, LARGE_INPUT = ((300, 2480, 3508),), "ruled_table.box"
 RULE = re.compile(r"^rule (-?\d+) (-?\d+) (\d+) (\d+)$", re.M)
@@ -48,8 +53,14 @@ def wanted(data, fonts, sheet):
 def bits_wrong(sheets, room, given, data, run):
     """What is wrong with the bitmaps of a file on these sheets."""
     for dpi, width, height in sheets:
-        printed = run(["paint_bits", "1", str(dpi), str(width), str(height), "out.dvi", *room.fonts])
-        same(f"{width} by {height} pixels at {dpi} dpi", printed, wanted(data, given.fonts, (dpi, width, height)))
+        printed = run(
+            ["paint_bits", "1", str(dpi), str(width), str(height), "out.dvi", *room.fonts]
+        )
+        same(
+            f"{width} by {height} pixels at {dpi} dpi",
+            printed,
+            wanted(data, given.fonts, (dpi, width, height)),
+        )
     return count_wrong(run(["--refuse", "paint_bits", *ONE_SHEET, "out.dvi", *room.fonts]))
 
 
@@ -70,9 +81,19 @@ def numbers(root, archive=None, *_programs):
     with tempfile.TemporaryDirectory(prefix="boxglue-library-") as path:
         room = Room(path, next(it for it in all_inputs(root) if it.name == "one_rule_page.box"))
         write_dvi(root, archive, room)
-        for words, status in ((("0", "72", "1", "1"), 6), (("1", "0", "1", "1"), 6), (("1", "10001", "1", "1"), 6), (("1", "72", "0", "1"), 6), (("1", "72", "1", "10001"), 6),
-                              (("2", "72", "1", "1"), 5)):
-            same(" ".join(words), run_calls(root, archive, room, ["paint_bits", *words, "out.dvi"]), b"%d 0 0\n" % status)
+        for words, status in (
+            (("0", "72", "1", "1"), 6),
+            (("1", "0", "1", "1"), 6),
+            (("1", "10001", "1", "1"), 6),
+            (("1", "72", "0", "1"), 6),
+            (("1", "72", "1", "10001"), 6),
+            (("2", "72", "1", "1"), 5),
+        ):
+            same(
+                " ".join(words),
+                run_calls(root, archive, room, ["paint_bits", *words, "out.dvi"]),
+                b"%d 0 0\n" % status,
+            )
     return None
 
 
@@ -81,6 +102,10 @@ def cases(programs, root):
     inputs = {given.name: given for given in all_inputs(root)}
     for name, given in inputs.items():
         yield name, partial(outcome, SHEETS, bytes, given, root, *programs)
-    yield f"{LARGE_INPUT}_on_a_large_sheet", partial(outcome, LARGE_SHEETS, bytes, inputs[LARGE_INPUT], root, *programs)
-    yield "a_file_without_its_end", partial(outcome, SHEETS, lambda data: data[:-9], next(iter(inputs.values())), root, *programs)
+    yield f"{LARGE_INPUT}_on_a_large_sheet", partial(
+        outcome, LARGE_SHEETS, bytes, inputs[LARGE_INPUT], root, *programs
+    )
+    yield "a_file_without_its_end", partial(
+        outcome, SHEETS, lambda data: data[:-9], next(iter(inputs.values())), root, *programs
+    )
     yield "numbers", partial(numbers, root, *programs)

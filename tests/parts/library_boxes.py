@@ -23,7 +23,10 @@ OTHERS = rb"44 boxes\n4000 words, more than 400 lines: true\n"
 
 def in_python(root, archive, _folder, given):
     """The trees of Python."""
-    return run_wrong(*python_words(root, archive, [f"{root}/bindings/python/tests/box_trees.py", *given]), wanted=COMPARED)
+    return run_wrong(
+        *python_words(root, archive, [f"{root}/bindings/python/tests/box_trees.py", *given]),
+        wanted=COMPARED,
+    )
 
 
 def in_rust(root, archive, folder, given):
@@ -38,7 +41,9 @@ def outcome(call, root, archive=None, *_programs):
     """Runs a driver over the documents."""
     with tempfile.TemporaryDirectory(prefix="boxglue-boxes-") as folder:
         given = f"{folder}/documents", f"{folder}/metrics"
-        made = b"".join(b"document %d\n" % len(it) + it for it in itertools.islice(scripts(root), DOCUMENTS))
+        made = b"".join(
+            b"document %d\n" % len(it) + it for it in itertools.islice(scripts(root), DOCUMENTS)
+        )
         for path, data in zip(given, (made, metric_file())):
             write(path, data)
         return call(root, archive, folder, given)
@@ -46,4 +51,7 @@ def outcome(call, root, archive=None, *_programs):
 
 def cases(programs, root):
     """A driver for each language."""
-    return [(name, partial(outcome, call, root, *programs)) for name, call in {"Python": in_python, "Rust": in_rust}.items()]
+    return [
+        (name, partial(outcome, call, root, *programs))
+        for name, call in {"Python": in_python, "Rust": in_rust}.items()
+    ]

@@ -7,7 +7,15 @@ from functools import partial
 from xml.etree import ElementTree
 
 from common.files import content, read, write
-from common.library_build import build_shared, compile_c, heap_archive, object_words, python_words, run_build, rust_client
+from common.library_build import (
+    build_shared,
+    compile_c,
+    heap_archive,
+    object_words,
+    python_words,
+    run_build,
+    rust_client,
+)
 from common.outcome import lacks, need, without
 from common.part import in_turn
 from common.running import finished
@@ -22,7 +30,12 @@ SPLIT = in_turn(4)
 LIMIT = 900
 FILE_SIZE = 116
 # The compilers of the tests of the header, and the warnings that a program may ask for.
-LANGUAGES = {"C99": ["cc", "-std=c99"], "C11": ["cc", "-std=c11"], "C++98": ["c++", "-x", "c++", "-std=c++98", "-Wno-long-long"], "C++17": ["c++", "-x", "c++", "-std=c++17"]}
+LANGUAGES = {
+    "C99": ["cc", "-std=c99"],
+    "C11": ["cc", "-std=c11"],
+    "C++98": ["c++", "-x", "c++", "-std=c++98", "-Wno-long-long"],
+    "C++17": ["c++", "-x", "c++", "-std=c++17"],
+}
 WARNINGS = "-Wall -Wextra -Wpedantic -Wconversion -Wshadow -Wcast-qual -Wcast-align -Wundef -Werror".split()
 SYMBOLS = "run run_replies list paint fonts marks job_new job_commands job_run job_answers job_take".split()
 # The empty script is answered by "end: pages 0 bytes 0", and the empty file by "refused 20 BadDvi 0 Trailer".
@@ -42,14 +55,18 @@ answers 0 0 0: accepted
 finish 0 0 0: accepted
 take 0 0 0: accepted
 """
-WANTED = b"1: ok\n2: ok\n3: packed 1.0pt 1.0pt 0.0pt badness 0\n4: shipped 1\nend: pages 1 bytes 116\n"
+WANTED = (
+    b"1: ok\n2: ok\n3: packed 1.0pt 1.0pt 0.0pt badness 0\n4: shipped 1\nend: pages 1 bytes 116\n"
+)
 
 
 def text_of(root, name):
     """The text of a caller: the one block of docs/LIBRARY.md in a language, or a file of examples/library."""
     if "." in name:
         return read(f"{root}/examples/library/{name}")
-    found, = re.findall(rf"^```{name}\n(.*?)^```$", read(f"{root}/docs/LIBRARY.md"), flags=re.M | re.S)
+    (found,) = re.findall(
+        rf"^```{name}\n(.*?)^```$", read(f"{root}/docs/LIBRARY.md"), flags=re.M | re.S
+    )
     return found
 
 
@@ -70,7 +87,9 @@ def file_wrong(folder):
 def compiled_in_c(text, root, archive, folder, wanted=WANTED):
     """Runs a caller in C, and says what is wrong, or returns None."""
     write(f"{folder}/caller.c", text)
-    return compile_c(root, archive, [f"{folder}/caller.c"], f"{folder}/caller", []) or run_wrong([f"{folder}/caller"], folder=folder, wanted=wanted)
+    return compile_c(root, archive, [f"{folder}/caller.c"], f"{folder}/caller", []) or run_wrong(
+        [f"{folder}/caller"], folder=folder, wanted=wanted
+    )
 
 
 def caller_in_c(name, wanted, root, archive, folder):
@@ -83,23 +102,32 @@ def refused_in_c(name, line, others, root, archive, folder):
     for other in others:
         write(f"{folder}/caller.c", text.replace(line, other))
         wrong = compile_c(root, archive, [f"{folder}/caller.c"], f"{folder}/caller", [])
-        status = None if wrong else finished([f"{folder}/caller"], cwd=folder, timeout=LIMIT).returncode
+        status = (
+            None if wrong else finished([f"{folder}/caller"], cwd=folder, timeout=LIMIT).returncode
+        )
         if wrong or line not in text or status != 1 or os.path.exists(f"{folder}/page.dvi"):
-            return wrong or f"with {other!r} the status is {status}, and page.dvi is {'there' if os.path.exists(f'{folder}/page.dvi') else 'not there'}"
+            return (
+                wrong
+                or f"with {other!r} the status is {status}, and page.dvi is {'there' if os.path.exists(f'{folder}/page.dvi') else 'not there'}"
+            )
     return None
 
 
 def caller_in_python(root, archive, folder):
     write(f"{folder}/caller.py", text_of(root, "python"))
     words, env = python_words(root, archive, [f"{folder}/caller.py"])
-    return run_wrong(words, env, b"65536 2.0pt\n0 Rule(h=0, v=131072, height=131072, width=65536)\n", folder)
+    return run_wrong(
+        words, env, b"65536 2.0pt\n0 Rule(h=0, v=131072, height=131072, width=65536)\n", folder
+    )
 
 
 def caller_in_rust(root, archive, folder):
     need("cargo")
     words = rust_client(folder, f"{root}/bindings/rust/boxglue", text_of(root, "rs"))
     env = {**os.environ, "BOXGLUE_LIB_DIR": folder, "CARGO_TARGET_DIR": f"{folder}/target"}
-    return run_build([f"{root}/bindings/build", "--static", archive, f"{folder}/libboxglue.a"]) or run_wrong(words, env, b"1.0pt\nend: pages 1 bytes 116\n")
+    return run_build(
+        [f"{root}/bindings/build", "--static", archive, f"{folder}/libboxglue.a"]
+    ) or run_wrong(words, env, b"1.0pt\nend: pages 1 bytes 116\n")
 
 
 def null_pointers(language, root, archive, folder):
@@ -109,15 +137,32 @@ def null_pointers(language, root, archive, folder):
     steps = f"{root}/tests/clients"
     wraps = [f"-Wl,--wrap=boxglue_{it}" for it in SYMBOLS]
     objects, out = [f"{folder}/null_{it}.o" for it in ("pointers", "symbols")], f"{folder}/calls"
-    return (run_build([compiler, *flags, *WARNINGS, *object_words(root, f"{steps}/null_pointers.c", folder)])
-            or run_build(["cc", "-std=c11", *WARNINGS, *object_words(root, f"{steps}/null_symbols.c", folder)])
-            or run_build([compiler, "-o", out, *objects, archive, heap_archive(), *wraps])
-            or run_wrong([out], wanted=NULL_CALLS))
+    return (
+        run_build(
+            [compiler, *flags, *WARNINGS, *object_words(root, f"{steps}/null_pointers.c", folder)]
+        )
+        or run_build(
+            ["cc", "-std=c11", *WARNINGS, *object_words(root, f"{steps}/null_symbols.c", folder)]
+        )
+        or run_build([compiler, "-o", out, *objects, archive, heap_archive(), *wraps])
+        or run_wrong([out], wanted=NULL_CALLS)
+    )
 
 
 def binding(tests, root, archive, folder):
     """Runs tests of the binding."""
-    words, env = python_words(root, archive, [*"-m unittest discover -q -s".split(), f"{root}/bindings/python/tests", "-t", f"{root}/bindings/python", "-p", tests])
+    words, env = python_words(
+        root,
+        archive,
+        [
+            *"-m unittest discover -q -s".split(),
+            f"{root}/bindings/python/tests",
+            "-t",
+            f"{root}/bindings/python",
+            "-p",
+            tests,
+        ],
+    )
     return run_wrong(words, env, wanted=b"", folder=folder)
 
 
@@ -140,7 +185,7 @@ def pages_of(path):
     dvi = content(path)
     post_post = dvi.rstrip(b"\xdf")[:-1]
     post = int.from_bytes(post_post[-4:], "big")
-    return int.from_bytes(dvi[post + 27:post + 29], "big")
+    return int.from_bytes(dvi[post + 27 : post + 29], "big")
 
 
 def client(text, least, root, archive, folder):
@@ -148,7 +193,16 @@ def client(text, least, root, archive, folder):
     write(f"{folder}/plain.tfm", metric_file())
     write(f"{folder}/text.md", text(root))
     fonts = [f"--{name}={folder}/plain.tfm" for name in ("text", "bold", "italic", "code")]
-    words, env = python_words(root, archive, [f"{root}/examples/markdown/markdown_page.py", *fonts, f"{folder}/text.md", f"{folder}/text.dvi"])
+    words, env = python_words(
+        root,
+        archive,
+        [
+            f"{root}/examples/markdown/markdown_page.py",
+            *fonts,
+            f"{folder}/text.md",
+            f"{folder}/text.dvi",
+        ],
+    )
     wrong = run_wrong(words, env, wanted=b"")
     if wrong:
         return wrong
@@ -160,10 +214,17 @@ def driver(root, archive, folder):
     """The driver for SVG draws each letter and each rule of a page."""
     write(f"{folder}/plain.tfm", metric_file())
     script = read(f"{root}/examples/first_page.box")
-    write(f"{folder}/page.py", "import sys, boxglue\nopen('page.dvi', 'wb').write(boxglue.run(sys.stdin.read(), {'cmtt10': open('plain.tfm', 'rb').read()}).dvi)\n")
+    write(
+        f"{folder}/page.py",
+        "import sys, boxglue\nopen('page.dvi', 'wb').write(boxglue.run(sys.stdin.read(), {'cmtt10': open('plain.tfm', 'rb').read()}).dvi)\n",
+    )
     words, env = python_words(root, archive, [f"{folder}/page.py"])
     wrong = run_wrong(words, env, wanted=b"", folder=folder, given=script.encode())
-    words, env = python_words(root, archive, [f"{root}/examples/library/svg_pages.py", "page.dvi", "page", "cmtt10=plain.tfm"])
+    words, env = python_words(
+        root,
+        archive,
+        [f"{root}/examples/library/svg_pages.py", "page.dvi", "page", "cmtt10=plain.tfm"],
+    )
     wrong = wrong or run_wrong(words, env, wanted=b"", folder=folder)
     if wrong:
         return wrong
@@ -200,11 +261,22 @@ def outcome(call, root, archive=None, *_programs):
 def cases(programs, root):
     """The callers."""
     scripts = "rule 1pt 1pt 0pt", ("rule 1em 1pt 0pt", "penalty 0\\nunhbox 7\\npar")
-    calls = {"LIBRARY.md in C": partial(caller_in_c, "c", b"65536 sp wide\n"), "LIBRARY.md in C, refused": partial(refused_in_c, "c", "ship(&page, 0)", ["ship(&page, 7)"]),
-             "examples/library/job.c": partial(caller_in_c, "job.c", WANTED), "examples/library/job.c, refused": partial(refused_in_c, "job.c", *scripts),
-             "LIBRARY.md in Python": caller_in_python, "LIBRARY.md in Rust": caller_in_rust, "tests of bindings/python": partial(binding, "test_*.py"),
-             "types of bindings/python": types_of_binding, "marks of bindings/python in numpy": marks_in_numpy, "examples/markdown": partial(client, page_of_markdown, 1),
-             "examples/library/svg_pages.py": driver, "examples/markdown in 1,000 pages": partial(client, book_of_markdown, 1000),
-             "lines of examples/markdown": partial(size_of_client, 140)}
+    calls = {
+        "LIBRARY.md in C": partial(caller_in_c, "c", b"65536 sp wide\n"),
+        "LIBRARY.md in C, refused": partial(
+            refused_in_c, "c", "ship(&page, 0)", ["ship(&page, 7)"]
+        ),
+        "examples/library/job.c": partial(caller_in_c, "job.c", WANTED),
+        "examples/library/job.c, refused": partial(refused_in_c, "job.c", *scripts),
+        "LIBRARY.md in Python": caller_in_python,
+        "LIBRARY.md in Rust": caller_in_rust,
+        "tests of bindings/python": partial(binding, "test_*.py"),
+        "types of bindings/python": types_of_binding,
+        "marks of bindings/python in numpy": marks_in_numpy,
+        "examples/markdown": partial(client, page_of_markdown, 1),
+        "examples/library/svg_pages.py": driver,
+        "examples/markdown in 1,000 pages": partial(client, book_of_markdown, 1000),
+        "lines of examples/markdown": partial(size_of_client, 140),
+    }
     calls |= {f"null pointers in {it}": partial(null_pointers, it) for it in LANGUAGES}
     return [(name, partial(outcome, call, root, *programs)) for name, call in calls.items()]

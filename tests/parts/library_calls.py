@@ -32,13 +32,20 @@ def made_in_python(root, archive, room, calls):
     left = ran.stdout
     for call in calls:
         line = left.partition(b"\n")[0]
-        size = len(line) + 1 + sum(map(int, line.split()[1:])) if SIZES.fullmatch(line) else len(left)
-        yield subprocess.CompletedProcess(call, 0 if size < len(left) else ran.returncode, left[:size], ran.stderr)
+        size = (
+            len(line) + 1 + sum(map(int, line.split()[1:])) if SIZES.fullmatch(line) else len(left)
+        )
+        yield subprocess.CompletedProcess(
+            call, 0 if size < len(left) else ran.returncode, left[:size], ran.stderr
+        )
         left = left[size:]
 
 
 # The calls on scripts, each with that on a job, and those that give a listing.
-KINDS = {made_in_c: ([("run", "job"), ("run_replies", "job_replies")], ["list"]), made_in_python: ([("run", "job")], ["list", "marks"])}
+KINDS = {
+    made_in_c: ([("run", "job"), ("run_replies", "job_replies")], ["list"]),
+    made_in_python: ([("run", "job")], ["list", "marks"]),
+}
 
 
 def printed(ran):
@@ -47,7 +54,11 @@ def printed(ran):
     if ran.returncode or not SIZES.fullmatch(line):
         return f"the status is {ran.returncode}: {last_lines(ran.stderr)}"
     status, first, second = map(int, line.split())
-    return Printed(status, rest[:first], rest[first:]) if len(rest) == first + second else f"{len(rest)} bytes are printed, and not {first} and {second}"
+    return (
+        Printed(status, rest[:first], rest[first:])
+        if len(rest) == first + second
+        else f"{len(rest)} bytes are printed, and not {first} and {second}"
+    )
 
 
 def differs(call, found, wanted):
@@ -56,7 +67,9 @@ def differs(call, found, wanted):
         return f"{call}: {found}"
     if found.status != wanted.status:
         return f"{call}: the status is {found.status} and not {wanted.status}"
-    return first_difference(f"{call}: the text", found.text, wanted.text) or first_difference(f"{call}: the file", found.dvi, wanted.dvi)
+    return first_difference(f"{call}: the text", found.text, wanted.text) or first_difference(
+        f"{call}: the file", found.dvi, wanted.dvi
+    )
 
 
 def calls_of(room, wanted, kinds, listings):
@@ -65,9 +78,16 @@ def calls_of(room, wanted, kinds, listings):
     script = wanted["run"]
     for run, job in kinds:
         yield run, [run, "script", *room.fonts], script
-        if not script.text.startswith(BAD_SCRIPT):  # a bad piece is refused, and not the whole script
+        if not script.text.startswith(
+            BAD_SCRIPT
+        ):  # a bad piece is refused, and not the whole script
             for most in LINES:
-                yield f"{job}, pieces of up to {most}", [job, str(most), "script", *room.fonts], script
+                yield f"{job}, pieces of up to {most}", [
+                    job,
+                    str(most),
+                    "script",
+                    *room.fonts,
+                ], script
     if "list" in wanted:
         room.write("out.dvi", script.dvi)
         for call in listings:
@@ -86,7 +106,16 @@ def outcome(make, given, root, archive=None, *programs):
         room = Room(path, given)
         names, calls, texts = zip(*calls_of(room, wanted, *KINDS[make]))
         made = make(root, archive, room, calls)
-        return next(filter(None, (differs(name, printed(ran), its) for name, ran, its in zip(names, made, texts, strict=True))), None)
+        return next(
+            filter(
+                None,
+                (
+                    differs(name, printed(ran), its)
+                    for name, ran, its in zip(names, made, texts, strict=True)
+                ),
+            ),
+            None,
+        )
 
 
 def cases(make, programs, root):
@@ -97,5 +126,15 @@ def cases(make, programs, root):
 
 def parts(_root):
     """A part for each language."""
-    for name, language, make in (("library_c", "C", made_in_c), ("library_python", "Python", made_in_python)):
-        yield Part(name, f"the library called from {language}, on examples/ and cases of rows_scripts", partial(cases, make), "library", True, split=in_turn(4))
+    for name, language, make in (
+        ("library_c", "C", made_in_c),
+        ("library_python", "Python", made_in_python),
+    ):
+        yield Part(
+            name,
+            f"the library called from {language}, on examples/ and cases of rows_scripts",
+            partial(cases, make),
+            "library",
+            True,
+            split=in_turn(4),
+        )

@@ -34,23 +34,43 @@ int main(void) {
     return printf("%u.%u.%u %u\\n", numbers[0], numbers[1], numbers[2], (unsigned)boxglue_proved()) < 0;
 }
 """
-PRINT_RUST = 'fn main() {\n    println!("{} {}", boxglue::version(), u32::from(boxglue::is_proved()));\n}\n'
-NO_NETWORK = {"PIP_NO_INDEX": "1", "PIP_DISABLE_PIP_VERSION_CHECK": "1", "PIP_CONFIG_FILE": os.devnull, "PIP_NO_CACHE_DIR": "1"}
+PRINT_RUST = (
+    'fn main() {\n    println!("{} {}", boxglue::version(), u32::from(boxglue::is_proved()));\n}\n'
+)
+NO_NETWORK = {
+    "PIP_NO_INDEX": "1",
+    "PIP_DISABLE_PIP_VERSION_CHECK": "1",
+    "PIP_CONFIG_FILE": os.devnull,
+    "PIP_NO_CACHE_DIR": "1",
+}
 
 
 def lacks_pip():
     """The result of a case that needs pip, if it is not there."""
-    return without("pip") if finished([sys.executable, "-m", "pip", "--version"], timeout=LIMIT).returncode else None
+    return (
+        without("pip")
+        if finished([sys.executable, "-m", "pip", "--version"], timeout=LIMIT).returncode
+        else None
+    )
 
 
 def stand_in(root, path, is_proved, value=None):
     """A shared object in place of the library, with this version and this answer; and with the symbol of one that is not proved."""
-    answers = {**dict.fromkeys(calls(root), 0), "boxglue_version": value or number(root), "boxglue_proved": int(is_proved)}
+    answers = {
+        **dict.fromkeys(calls(root), 0),
+        "boxglue_version": value or number(root),
+        "boxglue_proved": int(is_proved),
+    }
     os.makedirs(os.path.dirname(path), exist_ok=True)
     with open(f"{path}.c", "w", encoding="ascii") as it:
-        it.writelines(f"unsigned {name}(void) {{ return {answer}; }}\n" for name, answer in answers.items())
+        it.writelines(
+            f"unsigned {name}(void) {{ return {answer}; }}\n" for name, answer in answers.items()
+        )
         it.write("" if is_proved else f'const char boxglue_unproved[] = "{SAYS}";\n')
-    run([compiler(), *"-shared -fPIC -Wl,-soname,libboxglue.so.1 -o".split(), path, f"{path}.c"], os.path.dirname(path))
+    run(
+        [compiler(), *"-shared -fPIC -Wl,-soname,libboxglue.so.1 -o".split(), path, f"{path}.c"],
+        os.path.dirname(path),
+    )
     os.remove(f"{path}.c")
     return path
 
@@ -73,7 +93,14 @@ def pip(python, words, room, **env):
 
 def version_in(python, room):
     """The version of the package that an environment has."""
-    return run([python, "-c", "from importlib import metadata; print(metadata.version('boxglue'))"], room).decode().strip()
+    return (
+        run(
+            [python, "-c", "from importlib import metadata; print(metadata.version('boxglue'))"],
+            room,
+        )
+        .decode()
+        .strip()
+    )
 
 
 def wheels_wrong(root, prefix, said, room):
@@ -81,11 +108,21 @@ def wheels_wrong(root, prefix, said, room):
     if lacks_pip():
         return lacks_pip()
     version, folders = dotted(root), (f"{room}/proved", f"{room}/unproved")
-    _, unproved = (wheel_of(root, stand_in(root, f"{it}/libboxglue.so", it.endswith("/proved")), it) for it in folders)
+    _, unproved = (
+        wheel_of(root, stand_in(root, f"{it}/libboxglue.so", it.endswith("/proved")), it)
+        for it in folders
+    )
     for at, names in enumerate((folders, folders[::-1])):
-        python, links = new_environment(f"{room}/environment-{at}"), [it for name in names for it in ("--find-links", name)]
+        python, links = new_environment(f"{room}/environment-{at}"), [
+            it for name in names for it in ("--find-links", name)
+        ]
         newest = ["--upgrade", *links, "boxglue"]
-        runs = ([*links, "boxglue"], version), ([unproved], f"{version}.dev0+unproved"), (newest, version), (["--pre", *newest], version)
+        runs = (
+            ([*links, "boxglue"], version),
+            ([unproved], f"{version}.dev0+unproved"),
+            (newest, version),
+            (["--pre", *newest], version),
+        )
         for words, wanted in runs:
             pip(python, ["install", "--quiet", *words], room)
             if version_in(python, room) != wanted:
@@ -103,41 +140,83 @@ def wheels_in(folder):
     found = {}
     for path in glob.glob(f"{folder}/*.whl"):
         with zipfile.ZipFile(path) as it:
-            version = re.search(r'__version__ = "([^"]+)"', it.read("boxglue/__init__.py").decode())[1]
-            found[os.path.basename(path)] = os.path.basename(path).startswith(f"boxglue-{version}-") and "boxglue/libboxglue.so" in it.namelist()
+            version = re.search(
+                r'__version__ = "([^"]+)"', it.read("boxglue/__init__.py").decode()
+            )[1]
+            found[os.path.basename(path)] = (
+                os.path.basename(path).startswith(f"boxglue-{version}-")
+                and "boxglue/libboxglue.so" in it.namelist()
+            )
     return found
 
 
 def refused_wheel(source, words, why, room, **env):
     """What is wrong where pip should refuse to make a wheel, and say why."""
-    words = [sys.executable, *"-m pip wheel --no-deps --wheel-dir".split(), f"{room}/refused", *words, source]
+    words = [
+        sys.executable,
+        *"-m pip wheel --no-deps --wheel-dir".split(),
+        f"{room}/refused",
+        *words,
+        source,
+    ]
     kept = {name: value for name, value in os.environ.items() if name != "BOXGLUE_LIBRARY"}
     ran = finished(words, cwd=room, env={**kept, **NO_NETWORK, **env}, text=True, timeout=LIMIT)
     if not ran.returncode or wheels_in(f"{room}/refused"):
         return f"pip makes the wheels {[*wheels_in(f'{room}/refused')]}"
     said = f"{ran.stdout}{ran.stderr}"
-    return None if why in said and "Traceback" not in said else f"pip does not say {why!r} alone: {said[-600:]}"
+    return (
+        None
+        if why in said and "Traceback" not in said
+        else f"pip does not say {why!r} alone: {said[-600:]}"
+    )
 
 
 def backend_wrong(root, prefix, said, room):
     """What is wrong with wheels that pip makes of the folder: they are the one of ./install, or there is a clear error."""
     if lacks_pip():
         return lacks_pip()
-    wheel, = glob.glob(f"{prefix}/share/boxglue/python/*.whl")
+    (wheel,) = glob.glob(f"{prefix}/share/boxglue/python/*.whl")
     left_out = shutil.ignore_patterns("rust", "target", "__pycache__", "*.so")
     source = shutil.copytree(f"{root}/bindings", f"{room}/bindings", ignore=left_out) + "/python"
     shutil.copytree(f"{root}/examples", f"{room}/examples", ignore=shutil.ignore_patterns("target"))
     library = f"{prefix}/lib/libboxglue.so"
-    for at, (words, env) in enumerate(((["--config-settings", f"library={library}"], {}), ([], {"BOXGLUE_LIBRARY": library}))):
-        run([sys.executable, *"-m pip wheel --quiet --no-deps --wheel-dir".split(), f"{room}/{at}", *words, source], room, **NO_NETWORK, **env)
+    for at, (words, env) in enumerate(
+        ((["--config-settings", f"library={library}"], {}), ([], {"BOXGLUE_LIBRARY": library}))
+    ):
+        run(
+            [
+                sys.executable,
+                *"-m pip wheel --quiet --no-deps --wheel-dir".split(),
+                f"{room}/{at}",
+                *words,
+                source,
+            ],
+            room,
+            **NO_NETWORK,
+            **env,
+        )
         with open(wheel, "rb") as it, open(f"{room}/{at}/{os.path.basename(wheel)}", "rb") as made:
-            if it.read() != made.read() or wheels_in(f"{room}/{at}") != {os.path.basename(wheel): True}:
+            if it.read() != made.read() or wheels_in(f"{room}/{at}") != {
+                os.path.basename(wheel): True
+            }:
                 return f"pip makes {wheels_in(f'{room}/{at}')}, which is not the wheel of ./install"
     old = stand_in(root, f"{room}/old/libboxglue.so", True, 10100)
-    return (refused_wheel(source, [], "the wheel needs libboxglue.so", room)
-            or refused_wheel(source, [], "has version 1.1.0, and the package", room, BOXGLUE_LIBRARY=old)
-            or refused_wheel(source, [], "is not a library of boxglue", room, BOXGLUE_LIBRARY=f"{source}/README.md")
-            or refused_wheel(source, ["--config-settings", f"library={room}/absent"], "absent", room, BOXGLUE_LIBRARY=library))
+    return (
+        refused_wheel(source, [], "the wheel needs libboxglue.so", room)
+        or refused_wheel(
+            source, [], "has version 1.1.0, and the package", room, BOXGLUE_LIBRARY=old
+        )
+        or refused_wheel(
+            source, [], "is not a library of boxglue", room, BOXGLUE_LIBRARY=f"{source}/README.md"
+        )
+        or refused_wheel(
+            source,
+            ["--config-settings", f"library={room}/absent"],
+            "absent",
+            room,
+            BOXGLUE_LIBRARY=library,
+        )
+    )
 
 
 def source_wrong(root, prefix, said, room):
@@ -145,31 +224,46 @@ def source_wrong(root, prefix, said, room):
     if lacks_pip():
         return lacks_pip()
     make = "import sys; sys.dont_write_bytecode = True; sys.path.insert(0, '.'); import _backend; print(_backend.build_sdist(sys.argv[1]))"
-    made = lambda folder: f"{folder}/{run([sys.executable, '-c', make, folder], f'{root}/bindings/python').decode().strip()}"
+    made = (
+        lambda folder: f"{folder}/{run([sys.executable, '-c', make, folder], f'{root}/bindings/python').decode().strip()}"
+    )
     first, again = made(room), made(os.path.dirname(prefix))
     with open(first, "rb") as it, open(again, "rb") as other:
         if it.read() != other.read() or os.path.basename(first) != f"boxglue-{dotted(root)}.tar.gz":
-            return f"{os.path.basename(first)} has other bytes when it is made again, or another name"
+            return (
+                f"{os.path.basename(first)} has other bytes when it is made again, or another name"
+            )
     python, library = new_environment(f"{room}/environment"), f"{prefix}/lib/libboxglue.so"
     pip(python, ["install", "--quiet", first], room, BOXGLUE_LIBRARY=library)
-    wheel, = glob.glob(f"{prefix}/share/boxglue/python/*.whl")
+    (wheel,) = glob.glob(f"{prefix}/share/boxglue/python/*.whl")
     if not os.path.basename(wheel).startswith(f"boxglue-{version_in(python, room)}-"):
         return f"the environment has version {version_in(python, room)}"
     with tarfile.open(first) as it:
         it.extractall(f"{room}/source")
     shutil.move(f"{room}/source/boxglue-{dotted(root)}/tests", f"{room}/away/tests")
-    run([python, "-m", "unittest", "discover", "-q", "-s", "tests", "-t", "."], f"{room}/away", PYTHONDONTWRITEBYTECODE="1")
+    run(
+        [python, "-m", "unittest", "discover", "-q", "-s", "tests", "-t", "."],
+        f"{room}/away",
+        PYTHONDONTWRITEBYTECODE="1",
+    )
     return None
 
 
 def metadata_wrong(root, prefix, said, room):
     """What is wrong with what the wheel says of itself: as pyproject.toml, with classifiers and keywords; and README.md says what threads may do."""
-    wheel, = glob.glob(f"{prefix}/share/boxglue/python/*.whl")
+    (wheel,) = glob.glob(f"{prefix}/share/boxglue/python/*.whl")
     with zipfile.ZipFile(wheel) as it:
         text = it.read(next(name for name in it.namelist() if name.endswith("/METADATA"))).decode()
-    wanted = ["Keywords: dvi,", "Classifier: Development Status :: ", "Classifier: Intended Audience :: ", "Classifier: Typing :: Typed",
-              *(f"Classifier: Programming Language :: Python :: 3.{it}\n" for it in range(10, 14)), "Requires-Python: >=3.10",
-              "Description-Content-Type: text/markdown\n\n# boxglue", "free-threaded"]
+    wanted = [
+        "Keywords: dvi,",
+        "Classifier: Development Status :: ",
+        "Classifier: Intended Audience :: ",
+        "Classifier: Typing :: Typed",
+        *(f"Classifier: Programming Language :: Python :: 3.{it}\n" for it in range(10, 14)),
+        "Requires-Python: >=3.10",
+        "Description-Content-Type: text/markdown\n\n# boxglue",
+        "free-threaded",
+    ]
     absent = [it for it in wanted if it not in text]
     return f"METADATA does not have {absent}" if absent else None
 
@@ -194,7 +288,11 @@ def loader_path(library):
 def asked_in_c(root, prefix, said, room):
     """What a program in C says that was linked with the shared object of the prefix."""
     write(f"{room}/asks.c", PRINT_C)
-    flags = [*"-std=c99 -Wall -Wextra -Wpedantic -Werror".split(), f"-I{prefix}/include", f"-L{prefix}/lib"]
+    flags = [
+        *"-std=c99 -Wall -Wextra -Wpedantic -Werror".split(),
+        f"-I{prefix}/include",
+        f"-L{prefix}/lib",
+    ]
     run([compiler(), *flags, "-o", "asks", "asks.c", "-lboxglue"], room)
     return said_at_run_time(root, prefix, room, [f"{room}/asks"], loader_path)
 
@@ -203,7 +301,12 @@ def asked_in_rust(root, prefix, said, room):
     """The same in Rust."""
     need("cargo")
     rust_client(room, f"{prefix}/share/boxglue/rust/boxglue", PRINT_RUST)
-    run(["cargo", "build", "--quiet", "--offline"], room, BOXGLUE_SHARED="1", CARGO_TARGET_DIR=f"{room}/target")
+    run(
+        ["cargo", "build", "--quiet", "--offline"],
+        room,
+        BOXGLUE_SHARED="1",
+        CARGO_TARGET_DIR=f"{room}/target",
+    )
     return said_at_run_time(root, prefix, room, [f"{room}/target/debug/client"], loader_path)
 
 
@@ -216,7 +319,9 @@ def asked_in_python(root, prefix, said, room):
 def loader_wrong(root, prefix, said, room):
     """What is wrong with the library that Python loads: that of its package, then the system's, and never one that lies where a clone has it."""
     left_out = shutil.ignore_patterns("__pycache__", "*.so")
-    package = shutil.copytree(f"{root}/bindings/python/boxglue", f"{room}/a/b/c/boxglue", ignore=left_out)
+    package = shutil.copytree(
+        f"{root}/bindings/python/boxglue", f"{room}/a/b/c/boxglue", ignore=left_out
+    )
     words, env = [sys.executable, "-B", "-c", PRINT_PYTHON], {"PYTHONPATH": f"{room}/a/b/c"}
     planted = stand_in(root, f"{room}/a/crates/boxglue_c/out/libboxglue.so", True, 10999)
     try:
@@ -227,15 +332,28 @@ def loader_wrong(root, prefix, said, room):
     system = stand_in(root, f"{room}/system/libboxglue.so.1", True, 10201)
     found = [run(words, room, **env, **loader_path(system))]
     stand_in(root, f"{package}/libboxglue.so", False, 10202)
-    found += [run(words, room, **env, **loader_path(system)), run(words, room, **env, **loader_path(system), BOXGLUE_LIBRARY=planted)]
-    return None if found == [b"1.2.1 1\n", b"1.2.2 0\n", b"1.9.99 1\n"] else f"the system's library, the package's and the named one say {found}"
+    found += [
+        run(words, room, **env, **loader_path(system)),
+        run(words, room, **env, **loader_path(system), BOXGLUE_LIBRARY=planted),
+    ]
+    return (
+        None
+        if found == [b"1.2.1 1\n", b"1.2.2 0\n", b"1.9.99 1\n"]
+        else f"the system's library, the package's and the named one say {found}"
+    )
 
 
 def cases(programs, root):
     """The wheels, the calls and the loader."""
     calls_of = {
-        "two wheels": wheels_wrong, "a wheel by pip": backend_wrong, "the source distribution": source_wrong, "the wheel's metadata": metadata_wrong,
-        "asked in C": asked_in_c, "asked in Rust": asked_in_rust, "asked in Python": asked_in_python, "the loader of Python": loader_wrong,
+        "two wheels": wheels_wrong,
+        "a wheel by pip": backend_wrong,
+        "the source distribution": source_wrong,
+        "the wheel's metadata": metadata_wrong,
+        "asked in C": asked_in_c,
+        "asked in Rust": asked_in_rust,
+        "asked in Python": asked_in_python,
+        "the loader of Python": loader_wrong,
     }
     for name, call in calls_of.items():
         yield name, partial(outcome, call, root, *programs)

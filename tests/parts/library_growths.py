@@ -22,9 +22,16 @@ SCRIPTS = """one_rule_page.box two_boxes.box text.box page_of_text.box ruled_tab
 LINES = 3
 RANDOM, RANDOM_PIECES = "page_of_text.box", "text.box"
 STRINGS = 1000
-COUNTED = re.compile(r"growths (\d+): nothing done (\d+), a command refused (\d+), the device failed (\d+), no difference (\d+)\n")
-COUNTED_JOB = re.compile(r"growths (\d+): made again (\d+), a command refused (\d+), the device failed (\d+), answers lost (\d+), no difference (\d+)\n")
-PIECES = re.compile(r"pieces %d: accepted \d+, some refused \d+, bad \d+; jobs \d+, with a file [1-9]\d*\n" % STRINGS)
+COUNTED = re.compile(
+    r"growths (\d+): nothing done (\d+), a command refused (\d+), the device failed (\d+), no difference (\d+)\n"
+)
+COUNTED_JOB = re.compile(
+    r"growths (\d+): made again (\d+), a command refused (\d+), the device failed (\d+), answers lost (\d+), no difference (\d+)\n"
+)
+PIECES = re.compile(
+    r"pieces %d: accepted \d+, some refused \d+, bad \d+; jobs \d+, with a file [1-9]\d*\n"
+    % STRINGS
+)
 FREED = re.compile(r"freed (\d+) jobs of up to (\d+) blocks\n")
 TRIED = re.compile(r"(?:(?:script|dvi|tfm) %d:(?: status \d+ \d+)+\n){3}" % STRINGS)
 
@@ -38,7 +45,9 @@ def run_calls(root, archive, room, words):
     """Runs the program. Returns what it prints, or raises what is wrong."""
     ran = room.run([build_calls(root, archive), *words])
     if ran.returncode:
-        raise ValueError(f"{' '.join(words[:2])}: the status is {ran.returncode}: {last_lines(ran.stderr)}")
+        raise ValueError(
+            f"{' '.join(words[:2])}: the status is {ran.returncode}: {last_lines(ran.stderr)}"
+        )
     return ran.stdout
 
 
@@ -62,7 +71,11 @@ def count_wrong(output, counted=COUNTED):
     if not found:
         return f"the program printed {output[:200]!r}"
     growths, *ways = map(int, found.groups())
-    return None if growths and sum(ways) == growths else f"{growths} growths were refused, and {sum(ways)} calls ended"
+    return (
+        None
+        if growths and sum(ways) == growths
+        else f"{growths} growths were refused, and {sum(ways)} calls ended"
+    )
 
 
 def growths_wrong(root, archive, name):
@@ -72,7 +85,11 @@ def growths_wrong(root, archive, name):
         room = Room(path, given)
         calls = [("run", "script", *room.fonts), ("run_replies", "script", *room.fonts)]
         if write_dvi(root, archive, room):
-            calls += [("list", "out.dvi", *room.fonts), ("paint", *ONE_SHEET, "out.dvi", *room.fonts), ("fonts", "out.dvi")]
+            calls += [
+                ("list", "out.dvi", *room.fonts),
+                ("paint", *ONE_SHEET, "out.dvi", *room.fonts),
+                ("fonts", "out.dvi"),
+            ]
         for words in calls:
             wrong = count_wrong(run_calls(root, archive, room, ["--refuse", *words]))
             if wrong:
@@ -85,7 +102,12 @@ def job_growths_wrong(root, archive, name):
     with tempfile.TemporaryDirectory(prefix="boxglue-library-") as path:
         room = Room(path, given_of(root, name))
         for call in ("job", "job_replies"):
-            wrong = count_wrong(run_calls(root, archive, room, ["--refuse", call, str(LINES), "script", *room.fonts]), COUNTED_JOB)
+            wrong = count_wrong(
+                run_calls(
+                    root, archive, room, ["--refuse", call, str(LINES), "script", *room.fonts]
+                ),
+                COUNTED_JOB,
+            )
             if wrong:
                 return f"{call}: {wrong}"
         return None
@@ -99,7 +121,11 @@ def frees_wrong(root, archive, name):
         output = run_calls(root, archive, room, ["frees", "script", *room.fonts]).decode()
     found = FREED.fullmatch(output)
     jobs = 2 * (given.script.count(b"\n") + 1)
-    return None if found and int(found[1]) == jobs and int(found[2]) > 1 else f"the program printed {output[:200]!r}, and {jobs} jobs are wanted"
+    return (
+        None
+        if found and int(found[1]) == jobs and int(found[2]) > 1
+        else f"the program printed {output[:200]!r}, and {jobs} jobs are wanted"
+    )
 
 
 def handles_wrong(root, archive):
@@ -122,7 +148,9 @@ def random_wrong(root, archive):
     with tempfile.TemporaryDirectory(prefix="boxglue-library-") as path:
         room = Room(path, given_of(root, RANDOM))
         write_dvi(root, archive, room)
-        output = run_calls(root, archive, room, ["random", str(STRINGS), "script", "out.dvi", room.fonts[0]])
+        output = run_calls(
+            root, archive, room, ["random", str(STRINGS), "script", "out.dvi", room.fonts[0]]
+        )
     return None if TRIED.fullmatch(output.decode()) else f"the program printed {output[:200]!r}"
 
 
@@ -133,8 +161,18 @@ def outcome(call, root, programs):
 
 def cases(programs, root):
     """The scripts whose growths are refused, at once and in pieces, and whose jobs are freed; random bytes; random pieces; and handles."""
-    calls = {name: partial(lambda name, *words: growths_wrong(*words, name), name) for name in SCRIPTS}
-    calls |= {f"job of {name}": partial(lambda name, *words: job_growths_wrong(*words, name), name) for name in SCRIPTS}
-    calls |= {f"freed after each line of {name}": partial(lambda name, *words: frees_wrong(*words, name), name) for name in SCRIPTS}
+    calls = {
+        name: partial(lambda name, *words: growths_wrong(*words, name), name) for name in SCRIPTS
+    }
+    calls |= {
+        f"job of {name}": partial(lambda name, *words: job_growths_wrong(*words, name), name)
+        for name in SCRIPTS
+    }
+    calls |= {
+        f"freed after each line of {name}": partial(
+            lambda name, *words: frees_wrong(*words, name), name
+        )
+        for name in SCRIPTS
+    }
     calls |= {"random bytes": random_wrong, "random pieces": pieces_wrong, "handles": handles_wrong}
     return [(name, partial(outcome, call, root, programs)) for name, call in calls.items()]

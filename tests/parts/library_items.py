@@ -47,7 +47,7 @@ def items_wrong(root, archive, given, compared=None):
         lines = given.script.splitlines(keepends=True)
         if not found:
             return None
-        before, ship = b"".join(lines[:int(found[1]) - 1]), lines[int(found[1]) - 1]
+        before, ship = b"".join(lines[: int(found[1]) - 1]), lines[int(found[1]) - 1]
         room.write("before", before)
         room.write("out.dvi", dvi)
         if re.search(rb"^set [hv]offset", before, re.M) or not dvi:
@@ -56,7 +56,9 @@ def items_wrong(root, archive, given, compared=None):
         if listing.startswith(b"refused"):
             return None
         page = first_page(listing)
-        items, _, shown = run(["items", ship.split()[1].decode(), "before", *room.fonts]).partition(b"\nshown\n")
+        items, _, shown = run(["items", ship.split()[1].decode(), "before", *room.fonts]).partition(
+            b"\nshown\n"
+        )
     box = items.splitlines()[1].split()
     if compared is not None:
         compared.append(len(page))
@@ -79,7 +81,9 @@ def of_documents(group, root, archive=None):
     for number in range(group, DOCUMENTS, GROUPS):
         script = document_of(number, b"").script
         names = dict.fromkeys(it.decode() for it in re.findall(rb"(?m)^font \d+ (\S+)", script))
-        wrong = items_wrong(root, archive, Input("", script, dict.fromkeys(names, metric_file())), compared)
+        wrong = items_wrong(
+            root, archive, Input("", script, dict.fromkeys(names, metric_file())), compared
+        )
         if wrong:
             return f"document {number}: {wrong}"
     return None if len(compared) >= LEAST else f"only {len(compared)} pages were compared"
@@ -103,13 +107,19 @@ def wide_lines():
 
 def wide(root, archive=None):
     """A box with glue beyond 2^63."""
-    script = f"hbox to {points(SIZE)} into 7\n" + "".join(f"glue 0pt plus {points(it)}\n" for it in STRETCHES) + "end\n"
+    script = (
+        f"hbox to {points(SIZE)} into 7\n"
+        + "".join(f"glue 0pt plus {points(it)}\n" for it in STRETCHES)
+        + "end\n"
+    )
     with tempfile.TemporaryDirectory(prefix="boxglue-library-") as path:
         room = Room(path, Input("", script.encode()))
         printed = run_calls(root, archive, room, ["items", "7", "script"])
         void = run_calls(root, archive, room, ["items", "8", "script"])
     wanted = f"{len(STRETCHES) + 1} items, 0 bytes\n" + "".join(wide_lines()) + "shown\n"
-    return first_difference("the items", printed, wanted.encode()) or first_difference("a void register", void, b"0 items, 0 bytes\nshown\n")
+    return first_difference("the items", printed, wanted.encode()) or first_difference(
+        "a void register", void, b"0 items, 0 bytes\nshown\n"
+    )
 
 
 def cases(programs, root):

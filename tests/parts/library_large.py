@@ -22,6 +22,7 @@ FIRST, SECOND = Font(0, b"tiny"), Font(1, b"tiny", 20 * PT, 5 * PT, -0x01234568)
 @dataclass(frozen=True)
 class Calls:
     """Files, and calls on them: the words of each, and what it prints: `Printed`, or for the fonts or marks of a file the status and the lines."""
+
     files: dict
     calls: list = field(default_factory=list)
 
@@ -43,12 +44,19 @@ def calls_of_work(make):
     scripts = {it.stdin for it in work.runs if it.words[:1] == ("typeset",)}
     made = {name: data for it in work.runs for name, data in it.made.items() if data}
     assert len(scripts) == 1, "one script"
-    return Calls({**work.files, **made, "script": scripts.pop()}, [call for run in work.runs for call in calls_of_run(run)])
+    return Calls(
+        {**work.files, **made, "script": scripts.pop()},
+        [call for run in work.runs for call in calls_of_run(run)],
+    )
 
 
 def rows_of(fonts):
     """The lines that are printed for the fonts of a file."""
-    return b"".join(b"%d %d %s %d %d\n" % (it.number, it.size, it.name, it.design_size, it.check_sum % (1 << 32)) for it in fonts)
+    return b"".join(
+        b"%d %d %s %d %d\n"
+        % (it.number, it.size, it.name, it.design_size, it.check_sum % (1 << 32))
+        for it in fonts
+    )
 
 
 def all_slots():
@@ -64,33 +72,64 @@ def definitions_of_another_program():
     fonts = [Font(100 + at, name, 1 + at) for at, name in enumerate(names)]
     file = dvi_file([Page([put_rule(1, 1)], new_fonts=tuple(fonts))], 0, 0)
     assert len(file.data) < 1 << 16
-    return Calls({"f.dvi": file.data}, [(["fonts", "f.dvi"], (0, rows_of(fonts))), (["list", "f.dvi"], Printed(0, listed([(ZERO_COUNTS, ["rule 0 0 1 1"])])))])
+    return Calls(
+        {"f.dvi": file.data},
+        [
+            (["fonts", "f.dvi"], (0, rows_of(fonts))),
+            (["list", "f.dvi"], Printed(0, listed([(ZERO_COUNTS, ["rule 0 0 1 1"])]))),
+        ],
+    )
 
 
 def three_hundred_fonts():
     """300 fonts are handed in, of which 299 have no bytes: the script uses the last one, and so does its file. A font after 300 of other names is found too."""
     words = [*(f"n{at}=none.tfm" for at in range(299)), "n299=tiny.tfm"]
     lines = ["font 7 n299", "use 7", "hbox into 0", "text c", "end", "ship 0"]
-    file = dvi_file([Page([down(5 * PT), select(7), set_char(99)], new_fonts=(Font(7, b"n299"),))], 5 * PT, 5 * PT)
-    replies = [*"ok; ok; ok; added 1 missing 0".split("; "), large_inputs.packed(5 * PT, 5 * PT, 0), "shipped 1"]
+    file = dvi_file(
+        [Page([down(5 * PT), select(7), set_char(99)], new_fonts=(Font(7, b"n299"),))],
+        5 * PT,
+        5 * PT,
+    )
+    replies = [
+        *"ok; ok; ok; added 1 missing 0".split("; "),
+        large_inputs.packed(5 * PT, 5 * PT, 0),
+        "shipped 1",
+    ]
     ran = Printed(0, large_inputs.answers(replies, large_inputs.summary(1, file)), file.data)
     runs = [([*call, "script", *words], ran) for call in (["run"], ["job", "0"], ["job", "2"])]
     paint = ["paint", "1", "72", "2", "1", "f.dvi", *words]
     marks = Printed(0, listed([(ZERO_COUNTS, [f"glyph 7 99 0 {5 * PT}"])]))
-    bad = (["list", "f.dvi", *words[:-1], "n299=none.tfm"], Printed(1, b"refused 5 BadTfm TooShort\n"))
-    return Calls({"script": large_inputs.script(lines), "none.tfm": b"", "tiny.tfm": TINY, "f.dvi": file.data},
-                 [*runs, (["list", "f.dvi", *words], marks), (paint, Printed(0, b"P1\n2 1\n00\n")), bad])
+    bad = (
+        ["list", "f.dvi", *words[:-1], "n299=none.tfm"],
+        Printed(1, b"refused 5 BadTfm TooShort\n"),
+    )
+    return Calls(
+        {
+            "script": large_inputs.script(lines),
+            "none.tfm": b"",
+            "tiny.tfm": TINY,
+            "f.dvi": file.data,
+        },
+        [*runs, (["list", "f.dvi", *words], marks), (paint, Printed(0, b"P1\n2 1\n00\n")), bad],
+    )
 
 
 def two_pages():
     """A file of two pages and two fonts, and the place of its last byte that is not 223."""
-    file = dvi_file([Page([select(0), set_char(99), right(PT), [put_rule(1, 1)]], new_fonts=(FIRST, SECOND)), Page([])], 0, 0)
+    file = dvi_file(
+        [
+            Page([select(0), set_char(99), right(PT), [put_rule(1, 1)]], new_fonts=(FIRST, SECOND)),
+            Page([]),
+        ],
+        0,
+        0,
+    )
     return file.data, file, len(file.data.rstrip(b"\xdf")) - 1
 
 
 def changed(data, at, bytes_there):
     """The bytes of a file, with some replaced at a place."""
-    return data[:at] + bytes_there + data[at + len(bytes_there):]
+    return data[:at] + bytes_there + data[at + len(bytes_there) :]
 
 
 def files_that_are_refused():
@@ -102,30 +141,55 @@ def files_that_are_refused():
     last_name = defined + 2 * size - 5
     return {
         "an empty file": (b"", 0, "Trailer"),
-        "three bytes 223": (data[:end + 4], end + 4, "Trailer"),
+        "three bytes 223": (data[: end + 4], end + 4, "Trailer"),
         "another version at the end": (changed(data, end, b"\3"), end, "Version"),
         "no post_post": (changed(data, end - 5, NOP), end - 5, "Opcode"),
-        "post_post names no post": (changed(data, end - 4, number(post + 1, 4)), end - 4, "Pointer"),
-        "post names no bop": (changed(data, post + 1, number(second_bop + 1, 4)), post + 1, "Pointer"),
-        "a bop names no bop": (changed(data, second_bop + 41, number(first_bop + 1, 4)), second_bop + 41, "Pointer"),
+        "post_post names no post": (
+            changed(data, end - 4, number(post + 1, 4)),
+            end - 4,
+            "Pointer",
+        ),
+        "post names no bop": (
+            changed(data, post + 1, number(second_bop + 1, 4)),
+            post + 1,
+            "Pointer",
+        ),
+        "a bop names no bop": (
+            changed(data, second_bop + 41, number(first_bop + 1, 4)),
+            second_bop + 41,
+            "Pointer",
+        ),
         "a page too many": (changed(data, post + 27, number(3, 2)), post, "Count"),
         "no pre": (changed(data, 0, NOP), 0, "Preamble"),
         "another version at the beginning": (changed(data, 1, b"\3"), 0, "Preamble"),
         "other units": (changed(data, 13, b"\1"), 0, "Preamble"),
-        "no magnification": (changed(changed(data, 10, bytes(4)), post + 13, bytes(4)), 0, "Preamble"),
+        "no magnification": (
+            changed(changed(data, 10, bytes(4)), post + 13, bytes(4)),
+            0,
+            "Preamble",
+        ),
         "a name that is cut off": (changed(data, last_name, b"\5"), defined + size, "Truncated"),
         "an eop after post": (changed(data, defined, EOP), defined, "Opcode"),
         "a font of no size": (changed(data, defined + 6, bytes(4)), defined, "Font"),
         "a font of 2^27": (changed(data, defined + 6, number(1 << 27, 4)), defined, "Font"),
-        "two definitions of a number": (changed(data, defined + size + 1, b"\0"), defined + size, "Font"),
+        "two definitions of a number": (
+            changed(data, defined + size + 1, b"\0"),
+            defined + size,
+            "Font",
+        ),
     }
 
 
 def refused_files():
     """Each of them, with its line."""
     found = files_that_are_refused()
-    return Calls({f"{at}.dvi": data for at, (data, _, _) in enumerate(found.values())},
-                 [(["fonts", f"{at}.dvi"], (1, b"refused 20 BadDvi %d %s\n" % (place, cause.encode()))) for at, (_, place, cause) in enumerate(found.values())])
+    return Calls(
+        {f"{at}.dvi": data for at, (data, _, _) in enumerate(found.values())},
+        [
+            (["fonts", f"{at}.dvi"], (1, b"refused 20 BadDvi %d %s\n" % (place, cause.encode())))
+            for at, (_, place, cause) in enumerate(found.values())
+        ],
+    )
 
 
 def broken_pages():
@@ -133,41 +197,72 @@ def broken_pages():
     data, file, _ = two_pages()
     definitions, body = file.data.index(definition(FIRST)), file.data.index(BOP) + 45
     moved = body + 2
-    assert data[body:moved] == select(0) + set_char(99) and data[moved + 4:moved + 5] == PUSH
+    assert data[body:moved] == select(0) + set_char(99) and data[moved + 4 : moved + 5] == PUSH
     return {
         "an instruction that there is not": (changed(data, body, b"\xfa"), body, "Opcode"),
         "a pre in a page": (changed(data, body, PRE), body, "Opcode"),
         "a pop without a push": (changed(data, body, POP), body, "Stack"),
         "a push too many": (changed(data, moved, PUSH + 3 * NOP), moved + 4, "Stack"),
         "a character without a font": (changed(data, body, NOP), body + 1, "Glyph"),
-        "a character that the font has not": (changed(data, body + 1, set_char(1)), body + 1, "Glyph"),
+        "a character that the font has not": (
+            changed(data, body + 1, set_char(1)),
+            body + 1,
+            "Glyph",
+        ),
         "a font that is not defined": (changed(data, body, select(9)), body, "Font"),
-        "another definition before the page": (changed(data, definitions + 6, number(11 * PT, 4)), file.post + POST_SIZE, "Font"),
-        "no end of a page": (changed(data, file.page_ends[0] - 1, NOP), file.page_ends[0], "Opcode"),
+        "another definition before the page": (
+            changed(data, definitions + 6, number(11 * PT, 4)),
+            file.post + POST_SIZE,
+            "Font",
+        ),
+        "no end of a page": (
+            changed(data, file.page_ends[0] - 1, NOP),
+            file.page_ends[0],
+            "Opcode",
+        ),
     }
 
 
 def files_with_broken_pages():
     """Each of them, and the whole file, has its fonts: the call does not read the pages. A listing refuses all but the whole file."""
     whole, found = two_pages()[0], broken_pages()
-    files = {"whole.dvi": whole, **{f"{at}.dvi": data for at, (data, _, _) in enumerate(found.values())}}
-    lists = [(["list", f"{at}.dvi", "tiny=tiny.tfm"], Printed(1, b"refused 20 BadDvi %d %s\n" % (place, cause.encode())))
-             for at, (_, place, cause) in enumerate(found.values())]
-    return Calls({"tiny.tfm": TINY, **files}, [*((["fonts", name], (0, rows_of([FIRST, SECOND]))) for name in files), *lists])
+    files = {
+        "whole.dvi": whole,
+        **{f"{at}.dvi": data for at, (data, _, _) in enumerate(found.values())},
+    }
+    lists = [
+        (
+            ["list", f"{at}.dvi", "tiny=tiny.tfm"],
+            Printed(1, b"refused 20 BadDvi %d %s\n" % (place, cause.encode())),
+        )
+        for at, (_, place, cause) in enumerate(found.values())
+    ]
+    return Calls(
+        {"tiny.tfm": TINY, **files},
+        [*((["fonts", name], (0, rows_of([FIRST, SECOND]))) for name in files), *lists],
+    )
 
 
 def large_files():
     """A page of 8,000 rules, whose file is above 64 KiB, and its marks; and those of the file of a page of 80,000 rules. A check accepts both files."""
     calls = calls_of_work(large_inputs.page_of_rules)
     typeset, listing, _ = large_inputs.page_of_instructions().runs
-    marks = [(["marks", "out.dvi"], (0, listed([(ZERO_COUNTS, large_inputs.rules_marks())]))), (["marks", "more.dvi"], (0, b"".join(listing.stdout)))]
+    marks = [
+        (["marks", "out.dvi"], (0, listed([(ZERO_COUNTS, large_inputs.rules_marks())]))),
+        (["marks", "more.dvi"], (0, b"".join(listing.stdout))),
+    ]
     checks = [(["check", name], (0, b"")) for name in ("out.dvi", "more.dvi")]
-    return Calls({**calls.files, "more.dvi": typeset.made["out.dvi"]}, [*calls.calls, *marks, *checks])
+    return Calls(
+        {**calls.files, "more.dvi": typeset.made["out.dvi"]}, [*calls.calls, *marks, *checks]
+    )
 
 
 def fonts_of_large_file():
     """The fonts of a file above 64 KiB."""
-    return Calls({"f.dvi": large_inputs.rules_and_fonts().data}, [(["fonts", "f.dvi"], (0, rows_of(large_inputs.FONTS_OF_RULES)))])
+    return Calls(
+        {"f.dvi": large_inputs.rules_and_fonts().data},
+        [(["fonts", "f.dvi"], (0, rows_of(large_inputs.FONTS_OF_RULES)))],
+    )
 
 
 def large_broken_files():
@@ -176,10 +271,24 @@ def large_broken_files():
     last_rule = file.page_ends[0] - 1 - len(put_rule(PT, PT))
     assert last_rule > 1 << 16 and file.data[last_rule:-1].startswith(put_rule(PT, PT) + EOP)
     bad_font, place = large_inputs.with_bad_font(file)
-    lines = {"page.dvi": b"refused 20 BadDvi %d Opcode\n" % last_rule, "font.dvi": b"refused 20 BadDvi %d Font\n" % place}
-    calls = [call for name, line in lines.items() for call in ((["marks", name], (1, line)), (["check", name], (1, line)), (["list", name], Printed(1, line)),
-                                                              ([*"paint 1 72 2 1".split(), name], Printed(1, line)))]
-    return Calls({"page.dvi": changed(file.data, last_rule, b"\xfa"), "font.dvi": bad_font}, [*calls, (["fonts", "font.dvi"], (1, lines["font.dvi"]))])
+    lines = {
+        "page.dvi": b"refused 20 BadDvi %d Opcode\n" % last_rule,
+        "font.dvi": b"refused 20 BadDvi %d Font\n" % place,
+    }
+    calls = [
+        call
+        for name, line in lines.items()
+        for call in (
+            (["marks", name], (1, line)),
+            (["check", name], (1, line)),
+            (["list", name], Printed(1, line)),
+            ([*"paint 1 72 2 1".split(), name], Printed(1, line)),
+        )
+    ]
+    return Calls(
+        {"page.dvi": changed(file.data, last_rule, b"\xfa"), "font.dvi": bad_font},
+        [*calls, (["fonts", "font.dvi"], (1, lines["font.dvi"]))],
+    )
 
 
 def many_replies():
@@ -209,7 +318,11 @@ def status_and_lines(ran):
     """The status and the lines that a call for fonts or marks printed. From C the first line also has the number of the fonts and the size of their names or of the
     refusal; or the units of the file."""
     line, _, rest = ran.stdout.partition(b"\n")
-    return f"the status is {ran.returncode}: {last_lines(ran.stderr)}" if ran.returncode else (int(line.split()[0]), rest)
+    return (
+        f"the status is {ran.returncode}: {last_lines(ran.stderr)}"
+        if ran.returncode
+        else (int(line.split()[0]), rest)
+    )
 
 
 def call_wrong(ran, words, wanted):
@@ -231,15 +344,36 @@ def outcome(make_calls, make, root, archive=None, *_programs):
         for name, data in calls.files.items():
             room.write(name, data)
         made = make_calls(root, archive, room, [words for words, _ in calls.calls])
-        return next(filter(None, (call_wrong(ran, words, wanted) for ran, (words, wanted) in zip(made, calls.calls, strict=True))), None)
+        return next(
+            filter(
+                None,
+                (
+                    call_wrong(ran, words, wanted)
+                    for ran, (words, wanted) in zip(made, calls.calls, strict=True)
+                ),
+            ),
+            None,
+        )
 
 
 def cases(make_calls, programs, root):
     """The cases, by name."""
-    return [(name, partial(outcome, make_calls, make, root, *programs)) for name, make in CASES.items()]
+    return [
+        (name, partial(outcome, make_calls, make, root, *programs)) for name, make in CASES.items()
+    ]
 
 
 def parts(_root):
     """A part for each language."""
-    for name, language, make_calls in (("library_c_large", "C", made_in_c), ("library_python_large", "Python", made_in_python)):
-        yield Part(name, f"{TITLE}, from {language}", partial(cases, make_calls), "library", True, split=in_turn(4))
+    for name, language, make_calls in (
+        ("library_c_large", "C", made_in_c),
+        ("library_python_large", "Python", made_in_python),
+    ):
+        yield Part(
+            name,
+            f"{TITLE}, from {language}",
+            partial(cases, make_calls),
+            "library",
+            True,
+            split=in_turn(4),
+        )

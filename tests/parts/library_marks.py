@@ -42,8 +42,9 @@ def marks_wrong(room, given, listing, run):
     if listing.startswith(b"refused"):
         return first_difference("the refusal", printed.encode(), REFUSED + listing)
     fonts = fonts_of(run(["fonts", "out.dvi"]))
-    return (first_difference("the marks", GLYPH.sub(r"\1", printed).encode(), UNITS + listing)
-            or width_wrong(printed, fonts, given.fonts))
+    return first_difference(
+        "the marks", GLYPH.sub(r"\1", printed).encode(), UNITS + listing
+    ) or width_wrong(printed, fonts, given.fonts)
 
 
 def outcome(given, root, archive=None, *programs):
@@ -53,8 +54,14 @@ def outcome(given, root, archive=None, *programs):
         run = partial(run_calls, root, archive, room)
         if not write_dvi(root, archive, room):
             return None
-        listing = printed_by(programs[0], root, given.name)["list"].text if programs else run(["list", "out.dvi", *room.fonts]).partition(b"\n")[2]
-        return marks_wrong(room, given, listing, run) or count_wrong(run(["--refuse", "marks", "out.dvi", *room.fonts]))
+        listing = (
+            printed_by(programs[0], root, given.name)["list"].text
+            if programs
+            else run(["list", "out.dvi", *room.fonts]).partition(b"\n")[2]
+        )
+        return marks_wrong(room, given, listing, run) or count_wrong(
+            run(["--refuse", "marks", "out.dvi", *room.fonts])
+        )
 
 
 def damaged(root, archive):

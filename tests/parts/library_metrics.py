@@ -24,17 +24,37 @@ NEEDS_PROGRAM = True
 SPLIT = in_turn(4)
 LIMIT = 60
 # The design size; the least size, and the greatest; those at which one bit more is cleared; and sizes that are none.
-SIZES = 0, 1, 655360, *((1 << bit) + low for bit, low in ((23, -1), (23, 0), (23, 1), (24, 1), (25, 3), (26, 7), (27, -1), (27, 0))), -1, -(1 << 31), (1 << 31) - 1
+SIZES = (
+    0,
+    1,
+    655360,
+    *(
+        (1 << bit) + low
+        for bit, low in ((23, -1), (23, 0), (23, 1), (24, 1), (25, 3), (26, 7), (27, -1), (27, 0))
+    ),
+    -1,
+    -(1 << 31),
+    (1 << 31) - 1,
+)
 OTHER_SIZE = 12345679
 # Changed files that are read by one run of the program; and the groups of the fonts of TeX Live.
 BATCH, GROUPS = 100, 8
-NO_GROWTHS = b"growths 0: nothing done 0, a command refused 0, the device failed 0, no difference 0\n"
+NO_GROWTHS = (
+    b"growths 0: nothing done 0, a command refused 0, the device failed 0, no difference 0\n"
+)
 
 
 def metric_files(root):
     """The metric files of the repository by their names, and one of 130,000 bytes."""
-    files = {os.path.basename(it): read(*os.path.split(it)) for it in sorted(glob.glob(f"{root}/examples/*.tfm"))}
-    return files | {name.decode(): data for name, data in rows(root)[0].items()} | {"large": large_metric_file()}
+    files = {
+        os.path.basename(it): read(*os.path.split(it))
+        for it in sorted(glob.glob(f"{root}/examples/*.tfm"))
+    }
+    return (
+        files
+        | {name.decode(): data for name, data in rows(root)[0].items()}
+        | {"large": large_metric_file()}
+    )
 
 
 def calls(root, archive, room, words):
@@ -49,10 +69,18 @@ def model(root, name, archive):
         room = Room(path, Input("", b""))
         room.write("one.tfm", data)
         for size in SIZES:
-            same(f"{name} at {size}", calls(root, archive, room, ["metrics", str(size), "one.tfm"]).encode(), wanted(data, size).encode())
+            same(
+                f"{name} at {size}",
+                calls(root, archive, room, ["metrics", str(size), "one.tfm"]).encode(),
+                wanted(data, size).encode(),
+            )
         # A file that is refused before anything is allocated has no growths.
         refused = run_calls(root, archive, room, ["--refuse", "metrics", "0", "one.tfm"])
-        return None if refused == NO_GROWTHS and wanted(data, 0).startswith("status 1") else count_wrong(refused)
+        return (
+            None
+            if refused == NO_GROWTHS and wanted(data, 0).startswith("status 1")
+            else count_wrong(refused)
+        )
 
 
 def in_python(root, archive, _folder):
@@ -76,7 +104,15 @@ def driven(root, driver, archive):
         words, env, wrong = driver(root, archive, path)
         for size in () if wrong else SIZES:
             ran = finished([*words, str(size), *names], env=env, cwd=path, timeout=10 * LIMIT)
-            wrong = last_lines(ran.stderr) if ran.returncode else first_difference(f"at {size}", ran.stdout, "".join(wanted(it, size) for it in files.values()).encode())
+            wrong = (
+                last_lines(ran.stderr)
+                if ran.returncode
+                else first_difference(
+                    f"at {size}",
+                    ran.stdout,
+                    "".join(wanted(it, size) for it in files.values()).encode(),
+                )
+            )
             if wrong:
                 break
     return wrong
@@ -85,7 +121,7 @@ def driven(root, driver, archive):
 def changed_files(data):
     """Copies of a file with another byte at each place, in turn 0, 127, 128, 254 and 255, and beginnings of it."""
     for place in range(len(data)):
-        yield data[:place] + bytes([(0, 127, 128, 254, 255)[place % 5]]) + data[place + 1:]
+        yield data[:place] + bytes([(0, 127, 128, 254, 255)[place % 5]]) + data[place + 1 :]
         yield data[:place]
 
 
@@ -97,9 +133,18 @@ def changed(root, name, archive):
         for at, data in enumerate(files):
             room.write(f"{at}.tfm", data)
         for first in range(0, len(files), BATCH):
-            part = files[first:first + BATCH]
-            printed = calls(root, archive, room, ["metrics", "0", *(f"{first + at}.tfm" for at in range(len(part)))])
-            same(f"copies from {first} on", printed.encode(), "".join(wanted(it, 0) for it in part).encode())
+            part = files[first : first + BATCH]
+            printed = calls(
+                root,
+                archive,
+                room,
+                ["metrics", "0", *(f"{first + at}.tfm" for at in range(len(part)))],
+            )
+            same(
+                f"copies from {first} on",
+                printed.encode(),
+                "".join(wanted(it, 0) for it in part).encode(),
+            )
     return None
 
 
@@ -111,14 +156,26 @@ def printed_list(path):
 def installed_files():
     """The metric files of TeX Live, in folders of its trees that have some."""
     found = finished(["kpsewhich", "-var-value=TEXMF"], text=True).stdout
-    trees = [it.strip("!,{} \n") for it in found.replace("!!", "").replace("{", ",").replace("}", ",").split(",")]
-    return sorted({path for tree in trees if os.path.isdir(tree) for path in glob.glob(f"{tree}/fonts/tfm/**/*.tfm", recursive=True)})
+    trees = [
+        it.strip("!,{} \n")
+        for it in found.replace("!!", "").replace("{", ",").replace("}", ",").split(",")
+    ]
+    return sorted(
+        {
+            path
+            for tree in trees
+            if os.path.isdir(tree)
+            for path in glob.glob(f"{tree}/fonts/tfm/**/*.tfm", recursive=True)
+        }
+    )
 
 
 def printed_in_python(root, archive, size, paths):
     """What the driver in Python prints."""
     words, env, _ = in_python(root, archive, None)
-    return finished([*words, str(size), *paths], env=env, text=True, timeout=10 * LIMIT, check=True).stdout
+    return finished(
+        [*words, str(size), *paths], env=env, text=True, timeout=10 * LIMIT, check=True
+    ).stdout
 
 
 def batch_wrong(root, archive, room, paths):
@@ -136,7 +193,11 @@ def tex_live(root, group, archive):
     """Compares the metrics of a group of the fonts of TeX Live with what tftopl prints."""
     paths = installed_files()[group::GROUPS]
     with tempfile.TemporaryDirectory(prefix="boxglue-library-") as path:
-        return batch_wrong(root, archive, Room(path, Input("", b"")), paths) if paths else "TeX Live has no metric files"
+        return (
+            batch_wrong(root, archive, Room(path, Input("", b"")), paths)
+            if paths
+            else "TeX Live has no metric files"
+        )
 
 
 def outcome(call, root, archive=None, *_programs):
@@ -156,6 +217,8 @@ def cases(programs, root):
     for name in ("tiny", "restarts", "tables"):
         yield f"copies of {name}", partial(outcome, partial(changed, name=name), root, *programs)
     yield "Python", partial(outcome, partial(driven, driver=in_python), root, *programs)
-    yield "Rust", lambda: lacks("cargo") or outcome(partial(driven, driver=in_rust), root, *programs)
+    yield "Rust", lambda: lacks("cargo") or outcome(
+        partial(driven, driver=in_rust), root, *programs
+    )
     for group in range(GROUPS):
         yield f"TeX Live, group {group}", partial(tftopl_outcome, group, root, *programs)

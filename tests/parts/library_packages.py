@@ -42,10 +42,16 @@ END, SIZE = b"end: pages 1 bytes 232\n", 232
 
 def run(words, cwd, **env):
     """Runs a command that has to succeed, and returns its output. Of the environment it gets what tools need, and nothing that names the repository."""
-    kept = {name: os.environ[name] for name in ("PATH", "HOME", "CARGO_HOME", "RUSTUP_HOME") if name in os.environ}
+    kept = {
+        name: os.environ[name]
+        for name in ("PATH", "HOME", "CARGO_HOME", "RUSTUP_HOME")
+        if name in os.environ
+    }
     ran = finished(words, cwd=cwd, env={**kept, **env})
     if ran.returncode:
-        raise Wrong(f"{os.path.basename(words[0])}: the status is {ran.returncode}: {last_lines(ran.stderr or ran.stdout)}")
+        raise Wrong(
+            f"{os.path.basename(words[0])}: the status is {ran.returncode}: {last_lines(ran.stderr or ran.stdout)}"
+        )
     return ran.stdout
 
 
@@ -56,8 +62,10 @@ def installing(root, archive, program, prefix):
 
 def installed(root, archive, program):
     """The prefix in which all is put once, and what the script printed."""
+
     def make(prefix):
         write(f"{prefix}.said", run(installing(root, archive, program, prefix), own_folder()))
+
     prefix = once(named_for(archive, "prefix"), make)
     return prefix, read(f"{prefix}.said")
 
@@ -66,25 +74,50 @@ def page_wrong(root, words, room, **env):
     """What is wrong with a program that makes the page of README.md, or None."""
     answers = run([*words, f"{root}/{METRICS}", "page.dvi"], room, **env)
     size = os.path.getsize(f"{room}/page.dvi")
-    return None if answers.endswith(END) and size == SIZE else f"the answers end with {answers[-40:]!r}, and the file has {size} bytes"
+    return (
+        None
+        if answers.endswith(END) and size == SIZE
+        else f"the answers end with {answers[-40:]!r}, and the file has {size} bytes"
+    )
 
 
 def page_in_c(is_static, root, prefix, _said, room):
     """The example in C, by pkg-config, with the shared object or with the archive alone."""
     need("pkg-config")
     shutil.copy(f"{root}/examples/library/page.c", room)
-    flags = run(["pkg-config", "--cflags", "--libs", "boxglue"], room, PKG_CONFIG_PATH=f"{prefix}/lib/pkgconfig").decode().split()
+    flags = (
+        run(
+            ["pkg-config", "--cflags", "--libs", "boxglue"],
+            room,
+            PKG_CONFIG_PATH=f"{prefix}/lib/pkgconfig",
+        )
+        .decode()
+        .split()
+    )
     if is_static:
         flags = [*flags[:-1], "-l:libboxglue.a"]
-    run([compiler(), *"-std=c99 -Wall -Wextra -Wpedantic -Werror -o page page.c".split(), *flags], room)
-    return page_wrong(root, [f"{room}/page"], room, **({} if is_static else {"LD_LIBRARY_PATH": f"{prefix}/lib"}))
+    run(
+        [compiler(), *"-std=c99 -Wall -Wextra -Wpedantic -Werror -o page page.c".split(), *flags],
+        room,
+    )
+    return page_wrong(
+        root, [f"{room}/page"], room, **({} if is_static else {"LD_LIBRARY_PATH": f"{prefix}/lib"})
+    )
 
 
 def proved_in_c(root, prefix, _said, room):
     """What C says of the proofs of the shared object, and of the archive."""
     write(f"{room}/proved.c", PROVED)
     wanted = SAYS if SAYS.encode() in content(f"{prefix}/lib/libboxglue.so") else "proved"
-    words = [compiler(), *"-std=c99 -Wall -Wextra -Wpedantic -Werror".split(), f"-I{prefix}/include", "-o", "proved", "proved.c", f"-L{prefix}/lib"]
+    words = [
+        compiler(),
+        *"-std=c99 -Wall -Wextra -Wpedantic -Werror".split(),
+        f"-I{prefix}/include",
+        "-o",
+        "proved",
+        "proved.c",
+        f"-L{prefix}/lib",
+    ]
     for library in ("-lboxglue", "-l:libboxglue.a"):
         run([*words, library], room)
         found = run([f"{room}/proved"], room, LD_LIBRARY_PATH=f"{prefix}/lib").decode()
@@ -98,8 +131,24 @@ def page_in_python(root, prefix, said, room):
     wheel = re.search(r"^for Python: pip install (\S+)$", said, re.M)[1]
     if finished([sys.executable, "-m", "pip", "--version"]).returncode:
         return without("pip")
-    run([sys.executable, *"-m pip install --no-index --quiet --disable-pip-version-check --target".split(), f"{room}/site", wheel], room)
-    version = run([sys.executable, "-c", "import boxglue; print(boxglue.version())"], room, PYTHONPATH=f"{room}/site").decode().strip()
+    run(
+        [
+            sys.executable,
+            *"-m pip install --no-index --quiet --disable-pip-version-check --target".split(),
+            f"{room}/site",
+            wheel,
+        ],
+        room,
+    )
+    version = (
+        run(
+            [sys.executable, "-c", "import boxglue; print(boxglue.version())"],
+            room,
+            PYTHONPATH=f"{room}/site",
+        )
+        .decode()
+        .strip()
+    )
     if version != dotted(root):
         return f"the package has version {version}"
     shutil.copy(f"{root}/examples/library/page.py", room)
@@ -109,13 +158,25 @@ def page_in_python(root, prefix, said, room):
 def page_in_rust(root, _prefix, said, room):
     """The example in Rust, with the path that the script prints."""
     need("cargo")
-    shutil.copytree(f"{root}/examples/library/page", f"{room}/page", ignore=shutil.ignore_patterns("target", "Cargo.lock"))
+    shutil.copytree(
+        f"{root}/examples/library/page",
+        f"{room}/page",
+        ignore=shutil.ignore_patterns("target", "Cargo.lock"),
+    )
     manifest = f"{room}/page/Cargo.toml"
-    text, count = re.subn(r"(?m)^boxglue = .*$", lambda _: re.search(r"^for Rust, in Cargo.toml: (.*)$", said, re.M)[1], read(manifest))
+    text, count = re.subn(
+        r"(?m)^boxglue = .*$",
+        lambda _: re.search(r"^for Rust, in Cargo.toml: (.*)$", said, re.M)[1],
+        read(manifest),
+    )
     if count != 1:
         return "Cargo.toml of the example does not name the crate"
     write(manifest, text)
-    return page_wrong(root, [*"cargo run --quiet --offline --manifest-path".split(), f"{room}/page/Cargo.toml", "--"], room)
+    return page_wrong(
+        root,
+        [*"cargo run --quiet --offline --manifest-path".split(), f"{room}/page/Cargo.toml", "--"],
+        room,
+    )
 
 
 def rust_tests(is_shared, _root, prefix, _said, room):
@@ -123,15 +184,25 @@ def rust_tests(is_shared, _root, prefix, _said, room):
     need("cargo")
     shutil.copytree(f"{prefix}/share/boxglue/rust", f"{room}/rust")
     env = {"BOXGLUE_SHARED": "1", "LD_LIBRARY_PATH": f"{prefix}/lib"} if is_shared else {}
-    run(["cargo", "test", "--quiet", "--offline"], f"{room}/rust", PKG_CONFIG_PATH=f"{prefix}/lib/pkgconfig", BOXGLUE_LIB_DIR=f"{prefix}/lib", **env)
+    run(
+        ["cargo", "test", "--quiet", "--offline"],
+        f"{room}/rust",
+        PKG_CONFIG_PATH=f"{prefix}/lib/pkgconfig",
+        BOXGLUE_LIB_DIR=f"{prefix}/lib",
+        **env,
+    )
     return None
 
 
 def names_wrong(root, prefix, _said, room):
     """What is wrong with the names of the shared object and of the archive: those of the header, and that of an unproved library."""
     need("nm")
-    shared = run(["nm", "--dynamic", "--defined-only", f"{prefix}/lib/libboxglue.so"], room).decode()
-    static = run(["nm", "--extern-only", "--defined-only", f"{prefix}/lib/libboxglue.a"], room).decode()
+    shared = run(
+        ["nm", "--dynamic", "--defined-only", f"{prefix}/lib/libboxglue.so"], room
+    ).decode()
+    static = run(
+        ["nm", "--extern-only", "--defined-only", f"{prefix}/lib/libboxglue.a"], room
+    ).decode()
     for text in (shared, static):
         found = {*re.findall(r"^[0-9a-f]+ \w (\S+)$", text, re.M)} - {"boxglue_unproved"}
         if found != {*calls(root)}:
@@ -143,13 +214,27 @@ def names_wrong(root, prefix, _said, room):
 def wheel_wrong(root, prefix, said, room):
     """What is wrong with the wheel: another run gives other bytes, or its record is not that of its files."""
     wheel = re.search(r"^for Python: pip install (\S+)$", said, re.M)[1]
-    made = run([sys.executable, f"{root}/bindings/wheel", f"{prefix}/lib/libboxglue.so", room], room).decode().strip()
+    made = (
+        run([sys.executable, f"{root}/bindings/wheel", f"{prefix}/lib/libboxglue.so", room], room)
+        .decode()
+        .strip()
+    )
     if content(wheel) != content(made) or os.path.basename(wheel) != os.path.basename(made):
         return "the wheel is another one when it is made again"
     with zipfile.ZipFile(wheel) as it:
-        rows = {name: (digest, size) for name, digest, size in csv.reader(it.read(it.namelist()[-1]).decode().splitlines())}
-        found = {name: (record_digest(it.read(name)), str(len(it.read(name)))) for name in it.namelist()[:-1]}
-        return None if rows == {**found, it.namelist()[-1]: ("", "")} else "the record is not that of the files"
+        rows = {
+            name: (digest, size)
+            for name, digest, size in csv.reader(it.read(it.namelist()[-1]).decode().splitlines())
+        }
+        found = {
+            name: (record_digest(it.read(name)), str(len(it.read(name))))
+            for name in it.namelist()[:-1]
+        }
+        return (
+            None
+            if rows == {**found, it.namelist()[-1]: ("", "")}
+            else "the record is not that of the files"
+        )
 
 
 def record_digest(data):
@@ -161,9 +246,19 @@ def stage_wrong(root, archive, program):
     """What is wrong with files that are put below DESTDIR: one that names it."""
     with tempfile.TemporaryDirectory(prefix="boxglue-stage-") as room:
         run(installing(root, archive, program, "/opt/boxglue"), room, DESTDIR=f"{room}/stage")
-        paths = [f"{place}/{name}" for place, _, names in os.walk(f"{room}/stage") for name in names]
-        wrong = [os.path.relpath(it, room) for it in paths if room.encode() in content(it) or not it.startswith(f"{room}/stage/opt/boxglue/")]
-        return f"these files name DESTDIR, or are not below the prefix: {wrong}" if wrong or len(paths) < 20 else None
+        paths = [
+            f"{place}/{name}" for place, _, names in os.walk(f"{room}/stage") for name in names
+        ]
+        wrong = [
+            os.path.relpath(it, room)
+            for it in paths
+            if room.encode() in content(it) or not it.startswith(f"{room}/stage/opt/boxglue/")
+        ]
+        return (
+            f"these files name DESTDIR, or are not below the prefix: {wrong}"
+            if wrong or len(paths) < 20
+            else None
+        )
 
 
 def outcome(call, root, archive=None, program=None, *_programs):
@@ -176,9 +271,15 @@ def outcome(call, root, archive=None, program=None, *_programs):
 def cases(programs, root):
     """The programs over the installed files, and the files."""
     calls_of = {
-        "C, the shared object": partial(page_in_c, False), "C, the archive": partial(page_in_c, True), "C, whether it is proved": proved_in_c,
-        "Python": page_in_python, "Rust": page_in_rust, "tests of the crates, the archive": partial(rust_tests, False),
-        "tests of the crates, the shared object": partial(rust_tests, True), "names": names_wrong, "the wheel": wheel_wrong,
+        "C, the shared object": partial(page_in_c, False),
+        "C, the archive": partial(page_in_c, True),
+        "C, whether it is proved": proved_in_c,
+        "Python": page_in_python,
+        "Rust": page_in_rust,
+        "tests of the crates, the archive": partial(rust_tests, False),
+        "tests of the crates, the shared object": partial(rust_tests, True),
+        "names": names_wrong,
+        "the wheel": wheel_wrong,
     }
     for name, call in calls_of.items():
         yield name, partial(outcome, call, root, *programs)

@@ -46,8 +46,23 @@ def moved(prefix, room):
 def page_by_pkg_config(root, folder, libdir, room):
     """What is wrong with the example in C by pkg-config, from a folder."""
     words = ["pkg-config", "--cflags", "--libs", f"boxglue = {dotted(root)}"]
-    flags = run(words, room, PKG_CONFIG_PATH=f"{folder}/{libdir}/pkgconfig").decode().replace("\\ ", "\0").split()
-    run([compiler(), *FLAGS, "-o", "page", f"{root}/examples/library/page.c", *(it.replace("\0", " ") for it in flags)], room)
+    flags = (
+        run(words, room, PKG_CONFIG_PATH=f"{folder}/{libdir}/pkgconfig")
+        .decode()
+        .replace("\\ ", "\0")
+        .split()
+    )
+    run(
+        [
+            compiler(),
+            *FLAGS,
+            "-o",
+            "page",
+            f"{root}/examples/library/page.c",
+            *(it.replace("\0", " ") for it in flags),
+        ],
+        room,
+    )
     return page_wrong(root, [f"{room}/page"], room, LD_LIBRARY_PATH=f"{folder}/{libdir}")
 
 
@@ -55,8 +70,21 @@ def moved_in_c(root, prefix, said, room):
     """What is wrong with pkg-config where the prefix was moved."""
     need("pkg-config")
     folder = moved(prefix, room)
-    found = run(["pkg-config", "--variable=prefix", "boxglue"], room, PKG_CONFIG_PATH=f"{folder}/lib/pkgconfig").decode().strip().replace("\\ ", " ")
-    return page_by_pkg_config(root, folder, "lib", room) if os.path.realpath(found) == folder else f"the prefix is {found}"
+    found = (
+        run(
+            ["pkg-config", "--variable=prefix", "boxglue"],
+            room,
+            PKG_CONFIG_PATH=f"{folder}/lib/pkgconfig",
+        )
+        .decode()
+        .strip()
+        .replace("\\ ", " ")
+    )
+    return (
+        page_by_pkg_config(root, folder, "lib", room)
+        if os.path.realpath(found) == folder
+        else f"the prefix is {found}"
+    )
 
 
 def configured(version, folder, room, **env):
@@ -73,7 +101,9 @@ def page_by_cmake(root, folder, room):
     for version in ("", "1.1", "1.2.0 EXACT"):
         configured(version, folder, room)
     run(["cmake", "--build", f"{room}/made"], room)
-    wrong = page_wrong(root, [f"{room}/made/page"], room) or page_wrong(root, [f"{room}/made/page_static"], room)
+    wrong = page_wrong(root, [f"{room}/made/page"], room) or page_wrong(
+        root, [f"{room}/made/page_static"], room
+    )
     for version in ("1.99", "2", "0.9"):
         try:
             configured(version, folder, room)
@@ -92,56 +122,108 @@ def rust_page(root, crates, room, **env):
     """What is wrong with the example in Rust over crates in a folder."""
     shutil.copytree(f"{root}/examples/library/page/src", f"{room}/client/src", dirs_exist_ok=True)
     write(f"{room}/client/Cargo.toml", CARGO % f"{crates}/boxglue")
-    run(["cargo", "build", "--quiet", "--offline"], f"{room}/client", CARGO_TARGET_DIR=f"{room}/target", **env)
+    run(
+        ["cargo", "build", "--quiet", "--offline"],
+        f"{room}/client",
+        CARGO_TARGET_DIR=f"{room}/target",
+        **env,
+    )
     return page_wrong(root, [f"{room}/target/debug/client"], room)
 
 
 def moved_in_rust(root, prefix, said, room):
     """What is wrong with the crates where the prefix was moved: they find the archive beside them."""
-    return lacks("cargo") or rust_page(root, f"{moved(prefix, room)}/share/boxglue/rust", room, PKG_CONFIG_PATH="")
+    return lacks("cargo") or rust_page(
+        root, f"{moved(prefix, room)}/share/boxglue/rust", room, PKG_CONFIG_PATH=""
+    )
 
 
 def system_root_in_rust(root, prefix, said, room):
     """What is wrong with crates elsewhere, and two system roots in turn, in which boxglue.pc names /usr, as a distribution has it."""
     if lacks("cargo") or lacks("pkg-config"):
         return lacks("cargo") or lacks("pkg-config")
-    shutil.copytree(f"{root}/bindings/rust", f"{room}/crates", ignore=shutil.ignore_patterns("target", "Cargo.lock"))
+    shutil.copytree(
+        f"{root}/bindings/rust",
+        f"{room}/crates",
+        ignore=shutil.ignore_patterns("target", "Cargo.lock"),
+    )
     for system in (f"{room}/first", f"{room}/second"):
         shutil.copytree(prefix, f"{system}/usr", symlinks=True)
         lines = read(f"{system}/usr/lib/pkgconfig/boxglue.pc").splitlines()[1:]
         write(f"{system}/usr/lib/pkgconfig/boxglue.pc", "\n".join(["prefix=/usr", *lines, ""]))
-        wrong = rust_page(root, f"{room}/crates", room, PKG_CONFIG_SYSROOT_DIR=system, PKG_CONFIG_LIBDIR=f"{system}/usr/lib/pkgconfig")
-        outputs = [it for it in glob.glob(f"{room}/target/debug/build/boxglue-sys-*/output") if f"native={system}/" in read(it)]
+        wrong = rust_page(
+            root,
+            f"{room}/crates",
+            room,
+            PKG_CONFIG_SYSROOT_DIR=system,
+            PKG_CONFIG_LIBDIR=f"{system}/usr/lib/pkgconfig",
+        )
+        outputs = [
+            it
+            for it in glob.glob(f"{room}/target/debug/build/boxglue-sys-*/output")
+            if f"native={system}/" in read(it)
+        ]
         if wrong or not outputs:
-            return wrong or f"the library below {os.path.basename(system)} is not the one that is linked"
+            return (
+                wrong
+                or f"the library below {os.path.basename(system)} is not the one that is linked"
+            )
     return None
 
 
 def packaged(root, prefix, said, room):
     """What is wrong with `cargo package`: it packs and builds both crates, with the library of the prefix and, as docs.rs does, without any."""
     need("cargo")
-    crates = shutil.copytree(f"{root}/bindings/rust", f"{room}/crates", ignore=shutil.ignore_patterns("target", "Cargo.lock"))
+    crates = shutil.copytree(
+        f"{root}/bindings/rust",
+        f"{room}/crates",
+        ignore=shutil.ignore_patterns("target", "Cargo.lock"),
+    )
     for env in ({"BOXGLUE_LIB_DIR": f"{prefix}/lib"}, {"DOCS_RS": "1", "PKG_CONFIG_PATH": ""}):
-        run(["cargo", "package", "--workspace", "--offline", "--quiet"], crates, CARGO_TARGET_DIR=f"{room}/target", **env)
+        run(
+            ["cargo", "package", "--workspace", "--offline", "--quiet"],
+            crates,
+            CARGO_TARGET_DIR=f"{room}/target",
+            **env,
+        )
     for crate in ("boxglue", "boxglue-sys"):
-        listed = run(["cargo", "package", "--list", "--offline", "--quiet", "-p", crate], crates, CARGO_TARGET_DIR=f"{room}/target")
+        listed = run(
+            ["cargo", "package", "--list", "--offline", "--quiet", "-p", crate],
+            crates,
+            CARGO_TARGET_DIR=f"{room}/target",
+        )
         names = {*listed.decode().split()}
         text = read(f"{crates}/{crate}/Cargo.toml")
-        if "README.md" not in names or "libdir" in names or any(f"\n{it} = " not in text for it in ("readme", "keywords", "categories")):
+        if (
+            "README.md" not in names
+            or "libdir" in names
+            or any(f"\n{it} = " not in text for it in ("readme", "keywords", "categories"))
+        ):
             return f"{crate} has the files {sorted(names)}"
     return None
 
 
 def other_folder(root, archive, program, room):
     """What is wrong with a library in another folder, by pkg-config, CMake and Rust, and with its end."""
-    prefix, libdir = placed(root, archive, program, room, "--libdir", "lib/x86_64-linux-gnu"), "lib/x86_64-linux-gnu"
+    prefix, libdir = (
+        placed(root, archive, program, room, "--libdir", "lib/x86_64-linux-gnu"),
+        "lib/x86_64-linux-gnu",
+    )
     if os.listdir(f"{prefix}/lib") != ["x86_64-linux-gnu"]:
         return f"lib has {os.listdir(f'{prefix}/lib')}"
     wrong = None if lacks("pkg-config") else page_by_pkg_config(root, prefix, libdir, room)
-    wrong = wrong or (None if lacks("cmake") or lacks("make") else page_by_cmake(root, prefix, room))
-    wrong = wrong or (None if lacks("cargo") else rust_page(root, f"{prefix}/share/boxglue/rust", room, PKG_CONFIG_PATH=""))
+    wrong = wrong or (
+        None if lacks("cmake") or lacks("make") else page_by_cmake(root, prefix, room)
+    )
+    wrong = wrong or (
+        None
+        if lacks("cargo")
+        else rust_page(root, f"{prefix}/share/boxglue/rust", room, PKG_CONFIG_PATH="")
+    )
     run([f"{root}/install", "--uninstall", "--prefix", prefix], room)
-    return wrong or (f"{os.listdir(prefix)} is left" if os.path.exists(prefix) and os.listdir(prefix) else None)
+    return wrong or (
+        f"{os.listdir(prefix)} is left" if os.path.exists(prefix) and os.listdir(prefix) else None
+    )
 
 
 def without_kit(root, archive, program, room):
@@ -155,35 +237,61 @@ def without_kit(root, archive, program, room):
         if "lacks the heap of its kit" not in str(wrong) or os.path.exists(f"{room}/prefix"):
             return f"libboxglue_c.a: {wrong}"
     prefix = placed(root, f"{room}/libboxglue.a", program, room, PATH=path)
-    run([compiler(), *FLAGS, f"-I{prefix}/include", "-o", "page", f"{root}/examples/library/page.c", f"-L{prefix}/lib", "-lboxglue"], room)
+    run(
+        [
+            compiler(),
+            *FLAGS,
+            f"-I{prefix}/include",
+            "-o",
+            "page",
+            f"{root}/examples/library/page.c",
+            f"-L{prefix}/lib",
+            "-lboxglue",
+        ],
+        room,
+    )
     return page_wrong(root, [f"{room}/page"], room, LD_LIBRARY_PATH=f"{prefix}/lib")
 
 
 def dynamic_of(data):
     """The tags and values of the dynamic section of a 64-bit ELF file."""
-    start, = struct.unpack_from("<Q", data, 32)
+    (start,) = struct.unpack_from("<Q", data, 32)
     size, count = struct.unpack_from("<HH", data, 54)
     for at in range(start, start + size * count, size):
         kind, _flags, place, _address, _physical, length = struct.unpack_from("<IIQQQQ", data, at)
         if kind == DYNAMIC:
-            return dict(struct.unpack_from("<QQ", data, it) for it in range(place, place + length, 16))
+            return dict(
+                struct.unpack_from("<QQ", data, it) for it in range(place, place + length, 16)
+            )
     return {}
 
 
 def bound_now(root, prefix, said, room):
     """Whether the loader binds all symbols of the shared object before it runs."""
     found = dynamic_of(content(f"{prefix}/lib/libboxglue.so"))
-    return None if any(found.get(tag, 0) & bit for tag, bit in BINDS_NOW.items()) else f"the flags are {[found.get(tag) for tag in BINDS_NOW]}"
+    return (
+        None
+        if any(found.get(tag, 0) & bit for tag, bit in BINDS_NOW.items())
+        else f"the flags are {[found.get(tag) for tag in BINDS_NOW]}"
+    )
 
 
 def in_c89(root, prefix, said, room):
     """What is wrong with the header in strict C89: it is accepted with BOXGLUE_NO_INLINE alone, and says so."""
     write(f"{room}/calls.c", C89)
-    flags = [*"-std=c89 -pedantic-errors -Wall -Wextra -Werror -DBOXGLUE_NO_INLINE".split(), f"-I{prefix}/include", f"-L{prefix}/lib"]
+    flags = [
+        *"-std=c89 -pedantic-errors -Wall -Wextra -Werror -DBOXGLUE_NO_INLINE".split(),
+        f"-I{prefix}/include",
+        f"-L{prefix}/lib",
+    ]
     run([compiler(), *flags, "-o", "calls", "calls.c", "-lboxglue"], room)
     run([f"{room}/calls"], room, LD_LIBRARY_PATH=f"{prefix}/lib")
     text = " ".join(read(f"{prefix}/include/boxglue.h").replace("\n *", " ").split())
-    return None if "Strict C89 has no inline functions, and needs BOXGLUE_NO_INLINE." in text else "the header does not say what strict C89 needs"
+    return (
+        None
+        if "Strict C89 has no inline functions, and needs BOXGLUE_NO_INLINE." in text
+        else "the header does not say what strict C89 needs"
+    )
 
 
 def with_own_prefix(call, archive, program, root, _prefix, _said, room):
@@ -194,8 +302,13 @@ def with_own_prefix(call, archive, program, root, _prefix, _said, room):
 def cases(programs, root):
     """The places, and how the library is linked."""
     calls_of = {
-        "moved, in C": moved_in_c, "moved, by CMake": by_cmake, "moved, in Rust": moved_in_rust, "a system root, in Rust": system_root_in_rust,
-        "cargo package": packaged, "bound when it is loaded": bound_now, "strict C89": in_c89,
+        "moved, in C": moved_in_c,
+        "moved, by CMake": by_cmake,
+        "moved, in Rust": moved_in_rust,
+        "a system root, in Rust": system_root_in_rust,
+        "cargo package": packaged,
+        "bound when it is loaded": bound_now,
+        "strict C89": in_c89,
         "another folder": partial(with_own_prefix, other_folder, *programs[:2]),
         "without rt": partial(with_own_prefix, without_kit, *programs[:2]),
     }

@@ -9,7 +9,10 @@ from common.running import finished
 TITLE = "files that scripts of the repository make"
 # Each file, and the script that prints it; one of them runs TeX.
 BOXES = "tests/shown-boxes"
-MADE = {"examples/plain.tfm": "examples/plain-metrics", "bindings/python/tests/shown_boxes.txt": BOXES}
+MADE = {
+    "examples/plain.tfm": "examples/plain-metrics",
+    "bindings/python/tests/shown_boxes.txt": BOXES,
+}
 
 
 def outcome(root, path, script):
@@ -17,7 +20,11 @@ def outcome(root, path, script):
     if script == BOXES and lacks("tex"):
         return lacks("tex")
     ran = finished([sys.executable, "-B", f"{root}/{script}"])
-    return None if ran.returncode == 0 and ran.stdout == content(f"{root}/{path}") else f"{script} prints another file, status {ran.returncode}"
+    return (
+        None
+        if ran.returncode == 0 and ran.stdout == content(f"{root}/{path}")
+        else f"{script} prints another file, status {ran.returncode}"
+    )
 
 
 def cases(programs, root):

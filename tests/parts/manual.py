@@ -47,7 +47,7 @@ def wrong_file(room):
         width = (number + 1) * PT
         file = dvi_file([Page([down(PT), set_rule(PT, width)])], PT, width)
         if content(f"{room}/{number}.dvi") != file.data:
-                return f"the file of script {number} is wrong"
+            return f"the file of script {number} is wrong"
         answers = f"1: ok\n2: ok\n3: packed {number + 1}.0pt 1.0pt 0.0pt badness 0\n4: shipped 1\nend: pages 1 bytes {len(file.data)}\n"
         if read(f"{room}/{number}.txt") != answers:
             return f"the answers to script {number} are wrong"
@@ -67,7 +67,11 @@ def many(programs, root, tool, before):
             env = {"PATH": f"{room}/bin:{os.environ['PATH']}"}
             run = partial(finished, ["sh", "-c", line], cwd=room, env=env, text=True)
             ran = run()
-            why = f"the status is {ran.returncode}: {ran.stderr[-200:]!r}" if ran.returncode else wrong_file(room)
+            why = (
+                f"the status is {ran.returncode}: {ran.stderr[-200:]!r}"
+                if ran.returncode
+                else wrong_file(room)
+            )
             if why:
                 return f"{os.path.basename(program)}: {why}"
             for number in range(20, SCRIPTS):
@@ -75,7 +79,9 @@ def many(programs, root, tool, before):
             with open(f"{room}/7.box", "a", encoding="ascii") as it:
                 it.write("ship 0\n")
             ran = run()
-            if ran.returncode != {"xargs": 123, "make": 2}[tool] or not read(f"{room}/7.txt").endswith("5: refused 21 VoidBox\nend: pages 1 bytes 116\n"):
+            if ran.returncode != {"xargs": 123, "make": 2}[tool] or not read(
+                f"{room}/7.txt"
+            ).endswith("5: refused 21 VoidBox\nend: pages 1 bytes 116\n"):
                 return f"{os.path.basename(program)}: with a script that is refused the status is {ran.returncode}: {ran.stderr[-200:]!r}"
     return None
 
@@ -85,26 +91,43 @@ def columns(root, name, least):
     need("man")
     env = {"PATH": os.environ["PATH"], "LC_ALL": "C.UTF-8"}
     for width in WIDTHS:
-        shown = finished(["man", "-l", "--warnings", f"{root}/docs/{name}"], env={**env, "MANWIDTH": str(width)})
+        shown = finished(
+            ["man", "-l", "--warnings", f"{root}/docs/{name}"], env={**env, "MANWIDTH": str(width)}
+        )
         if shown.stderr:
             return f"groff warns at {width} columns: {shown.stderr.decode()[:200]!r}"
     lines = re.sub(r".\x08|\x1b\[[\d;]*m", "", shown.stdout.decode()).splitlines()
     long_ones = [it for it in lines if len(it) > 80]
-    return f"{len(long_ones)} of {len(lines)} lines are longer, as {long_ones[0]!r}" if long_ones else None if len(lines) > least else f"the page has {len(lines)} lines"
+    return (
+        f"{len(long_ones)} of {len(lines)} lines are longer, as {long_ones[0]!r}"
+        if long_ones
+        else None
+        if len(lines) > least
+        else f"the page has {len(lines)} lines"
+    )
 
 
 def library(root):
     """The page of the library is made of the header, and has a section for each call."""
-    here, there = {*re.findall(r"^\.SS (boxglue_\w+)\(\)$", read(f"{root}/docs/boxglue.3"), re.M)}, {*calls(root)}
+    here, there = {
+        *re.findall(r"^\.SS (boxglue_\w+)\(\)$", read(f"{root}/docs/boxglue.3"), re.M)
+    }, {*calls(root)}
     if here != there or not here:
         return f"these are not in both: {sorted(here ^ there)}"
     ran = finished([sys.executable, "-B", f"{root}/tools/library_page.py", "--check"], text=True)
-    return None if ran.returncode == 0 else f"tools/library_page.py writes another page: {ran.stderr[-200:]}"
+    return (
+        None
+        if ran.returncode == 0
+        else f"tools/library_page.py writes another page: {ran.stderr[-200:]}"
+    )
 
 
 def typed_calls(root):
     """The calls of include/boxglue_typed.h."""
-    return re.findall(r"\b(boxglue_(?:do_\w+|typed_\w+|quote))\((?:struct boxglue_typed|const void) \*", read(f"{root}/include/boxglue_typed.h"))
+    return re.findall(
+        r"\b(boxglue_(?:do_\w+|typed_\w+|quote))\((?:struct boxglue_typed|const void) \*",
+        read(f"{root}/include/boxglue_typed.h"),
+    )
 
 
 def doxygen(root):
@@ -112,7 +135,9 @@ def doxygen(root):
     need("doxygen")
     with tempfile.TemporaryDirectory(prefix="boxglue-doxygen-") as room:
         told = f"\nINPUT={root}/include\nSTRIP_FROM_PATH={root}\nOUTPUT_DIRECTORY={room}\n"
-        ran = finished(["doxygen", "-"], input=read(f"{root}/docs/Doxyfile") + told, cwd=room, text=True)
+        ran = finished(
+            ["doxygen", "-"], input=read(f"{root}/docs/Doxyfile") + told, cwd=room, text=True
+        )
         if ran.returncode or ran.stderr:
             return f"doxygen ends with {ran.returncode}: {ran.stderr[:300]!r}"
         pages = read(f"{room}/html/boxglue_8h.html") + read(f"{room}/html/boxglue__typed_8h.html")
@@ -126,5 +151,7 @@ def cases(programs, root):
     yield "doxygen", partial(doxygen, root)
     yield "80 columns of boxglue(1)", partial(columns, root, "boxglue.1", 300)
     yield "80 columns of boxglue(3)", partial(columns, root, "boxglue.3", 900)
-    yield "200 scripts by xargs", partial(many, programs, root, "xargs", "For all scripts of a folder")
+    yield "200 scripts by xargs", partial(
+        many, programs, root, "xargs", "For all scripts of a folder"
+    )
     yield "200 scripts by make", partial(many, programs, root, "make", "begins with a tab.*?\\.fi")

@@ -22,7 +22,12 @@ BY_PROGRAM = (0, 1, 999)
 
 def environment(root, archive):
     """The environment of a process that uses the binding."""
-    return {**os.environ, "BOXGLUE_LIBRARY": build_shared(root, archive), "PYTHONPATH": f"{root}/bindings/python", "PYTHONDONTWRITEBYTECODE": "1"}
+    return {
+        **os.environ,
+        "BOXGLUE_LIBRARY": build_shared(root, archive),
+        "PYTHONPATH": f"{root}/bindings/python",
+        "PYTHONDONTWRITEBYTECODE": "1",
+    }
 
 
 @functools.lru_cache(None)
@@ -37,10 +42,21 @@ def python_with_dask():
 def run_engine(root, archive, engine, python):
     """The folder with what an engine made, and what is wrong, or None."""
     out = f"{own_folder()}/many-{engine}"
-    words = [python, f"{root}/examples/many/many_documents.py", engine, f"{root}/examples/plain.tfm", out, "--count", str(COUNT)]
+    words = [
+        python,
+        f"{root}/examples/many/many_documents.py",
+        engine,
+        f"{root}/examples/plain.tfm",
+        out,
+        "--count",
+        str(COUNT),
+    ]
     ran = finished(words, env=environment(root, archive))
     if ran.returncode != 1 or not ran.stderr.decode().endswith(f"{COUNT} of {COUNT}, 1 refused\n"):
-        return out, f"{engine}: the status is {ran.returncode}, 1 is wanted: {last_lines(ran.stderr)}"
+        return (
+            out,
+            f"{engine}: the status is {ran.returncode}, 1 is wanted: {last_lines(ran.stderr)}",
+        )
     return out, None
 
 
@@ -57,7 +73,11 @@ def one_wrong(programs, root):
     if wrong or sorted(os.listdir(out)) != wanted:
         return wrong or f"{out} has other files than a DVI file for each document but {REFUSED}"
     said = read(f"{out}/{REFUSED}.refused")
-    return None if said == "line 11: refused 21 VoidBox: 'ship 1'\n" else f"document {REFUSED}: {said!r}"
+    return (
+        None
+        if said == "line 11: refused 21 VoidBox: 'ship 1'\n"
+        else f"document {REFUSED}: {said!r}"
+    )
 
 
 def engine_wrong(programs, root, engine):
@@ -84,10 +104,17 @@ def program_wrong(programs, root):
     for program in programs[1:]:
         for number in BY_PROGRAM:
             shows = f"import documents; print(documents.script({number}), end='')"
-            env = {**environment(root, programs[0]), "PYTHONPATH": f"{root}/bindings/python:{root}/examples/many"}
+            env = {
+                **environment(root, programs[0]),
+                "PYTHONPATH": f"{root}/bindings/python:{root}/examples/many",
+            }
             script = finished([sys.executable, "-c", shows], env=env, check=True).stdout
             made = f"{own_folder()}/many-{number}.dvi"
-            finished([program, "typeset", made, f"cmtt10={root}/examples/plain.tfm"], input=script, check=True)
+            finished(
+                [program, "typeset", made, f"cmtt10={root}/examples/plain.tfm"],
+                input=script,
+                check=True,
+            )
             if not filecmp.cmp(made, f"{out}/{number}.dvi", shallow=False):
                 return f"{os.path.basename(program)}: document {number} is another file"
     return None
@@ -95,6 +122,7 @@ def program_wrong(programs, root):
 
 def cases(programs, root):
     """The cases of this part."""
+
     def checked(wrong, *words):
         return wrong(programs, root, *words)
 

@@ -22,7 +22,10 @@ FACES = "cmr cmbx cmti cmbxti cmtt cmitt cmcsc cmsy cmmi".split()
 FONTS = [f"{face}{size}" for face in FACES for size in (5, 6, 7, 8, 9, 10, 12, 17)]
 # A document whose links have more bytes than a job ships.
 LINKS, ADDRESS, MOST_SPECIAL = 100, 8_000, 1_048_576
-SUMMARY = re.compile(r"^(\d+) pages, \d+ paragraphs, \d+ lines, (\d+) of them overfull, \d+ with a badness above 1000$", re.M)
+SUMMARY = re.compile(
+    r"^(\d+) pages, \d+ paragraphs, \d+ lines, (\d+) of them overfull, \d+ with a badness above 1000$",
+    re.M,
+)
 # A list has at most 65,536 items, of which a word of four letters and its space are five.
 LONG_WORDS = 14_000
 # The least pages of pandoc's manual page.
@@ -31,9 +34,15 @@ MANUAL = 100
 
 def convert(programs, root, out, document, *words):
     """Sets a document, and returns what is said."""
-    command, env = python_words(root, programs[0], [f"{root}/examples/pandoc/pandoc_pages.py", out, document, "--family", "cm", *words])
+    command, env = python_words(
+        root,
+        programs[0],
+        [f"{root}/examples/pandoc/pandoc_pages.py", out, document, "--family", "cm", *words],
+    )
     ran = finished(command, env=env, text=True)
-    require(ran.returncode == 0, f"the status is {ran.returncode}: {last_lines(ran.stderr.encode())}")
+    require(
+        ran.returncode == 0, f"the status is {ran.returncode}: {last_lines(ran.stderr.encode())}"
+    )
     require(SUMMARY.search(ran.stderr), f"there is no summary: {last_lines(ran.stderr.encode())}")
     return ran.stderr
 
@@ -50,7 +59,9 @@ class Room:
     def made(self, name, document, *words):
         """Sets a document, and returns the path of its file and what is said."""
         out = f"{self.folder}/{name}.dvi"
-        return out, convert(self.programs, self.root, out, document, "--fonts", f"{self.folder}/fonts", *words)
+        return out, convert(
+            self.programs, self.root, out, document, "--fonts", f"{self.folder}/fonts", *words
+        )
 
     def listing(self, dvi):
         """What `boxglue list` says of a file."""
@@ -95,10 +106,18 @@ def kinds(room):
     dvi, said = room.made("kinds", document(room.root, "kinds"))
     shown = "".join(pages_of(room.listing(dvi)))
     with open(document(room.root, "kinds"), encoding="utf-8") as it:
-        words = {word for text in texts_in(json.load(it)["blocks"]) for word in re.findall(r"[A-Za-z]+", text)}
+        words = {
+            word
+            for text in texts_in(json.load(it)["blocks"])
+            for word in re.findall(r"[A-Za-z]+", text)
+        }
     lost = [it for it in sorted(words) if it not in shown]
     require(not lost, f"no page shows {', '.join(lost[:5])}")
-    left = [it for it in ("#nowhere", "missing.png", "figure.jpg", "RawInline", "RawBlock", "mathematics") if it not in said]
+    left = [
+        it
+        for it in ("#nowhere", "missing.png", "figure.jpg", "RawInline", "RawBlock", "mathematics")
+        if it not in said
+    ]
     require(not left, f"nothing is said of {', '.join(left)}")
 
 
@@ -115,32 +134,67 @@ def notes(room):
     require(count > 20 and max(counts) > 5, "the document is too short")
     for number in range(1, count + 1):
         mark, foot = rf"anchor{number}{number}(?!\d)", rf"{number}Note{number}(?!\d)"
-        marks, feet = ([at for at, page in enumerate(shown) if re.search(it, page)] for it in (mark, foot))
-        require(marks == feet and len(marks) == 1, f"the mark of footnote {number} is on the pages {marks}, the footnote on {feet}")
+        marks, feet = (
+            [at for at, page in enumerate(shown) if re.search(it, page)] for it in (mark, foot)
+        )
+        require(
+            marks == feet and len(marks) == 1,
+            f"the mark of footnote {number} is on the pages {marks}, the footnote on {feet}",
+        )
         page = shown[marks[0]]
-        require(re.search(mark, page).end() <= re.search(foot, page).start(), f"footnote {number} is above its mark")
+        require(
+            re.search(mark, page).end() <= re.search(foot, page).start(),
+            f"footnote {number} is above its mark",
+        )
         require(f"end{number}." in page, f"footnote {number} goes on elsewhere")
     contents = re.sub(r"\.{3,}", " ", "".join(page for page, it in zip(shown, counts) if it < 0))
-    titles = [("".join(texts_in(it["c"][2])).replace(" ", ""), it["c"][1][0]) for it in blocks if it["t"] == "Header"]
+    titles = [
+        ("".join(texts_in(it["c"][2])).replace(" ", ""), it["c"][1][0])
+        for it in blocks
+        if it["t"] == "Header"
+    ]
     for title, _ in titles:
         found = re.search(rf"{re.escape(title)} (\d+)", contents)
-        require(found and title in shown[counts.index(int(found[1]))], f"the contents give {title} {found and found[1]}")
+        require(
+            found and title in shown[counts.index(int(found[1]))],
+            f"the contents give {title} {found and found[1]}",
+        )
         after = shown[counts.index(int(found[1]))].rpartition(title)[2]
         require(after and not re.match(r"\d+Note", after), f"{title} ends its page")
-    places, links = {*re.findall(r"pdf:dest \((p\d+)\)", listing)}, {*re.findall(r"/D\((p\d+)\)", listing)}
-    require(len(places) == len(titles) and links == places, f"links lead to {sorted(links ^ places)}")
+    places, links = {*re.findall(r"pdf:dest \((p\d+)\)", listing)}, {
+        *re.findall(r"/D\((p\d+)\)", listing)
+    }
+    require(
+        len(places) == len(titles) and links == places, f"links lead to {sorted(links ^ places)}"
+    )
     levels = re.findall(r"pdf:outline (\d)", listing)
-    require(levels == [str(it["c"][0]) for it in blocks if it["t"] == "Header"], f"the bookmarks have the levels {levels}")
+    require(
+        levels == [str(it["c"][0]) for it in blocks if it["t"] == "Header"],
+        f"the bookmarks have the levels {levels}",
+    )
 
 
 def small(room):
     """A document without headings begins with its title, and an empty one has a page."""
-    for name, blocks in (("text", [{"t": "Para", "c": [{"t": "Str", "c": "text"}]}]), ("empty", [])):
+    for name, blocks in (
+        ("text", [{"t": "Para", "c": [{"t": "Str", "c": "text"}]}]),
+        ("empty", []),
+    ):
         path = f"{room.folder}/{name}.json"
         with open(path, "w", encoding="ascii") as it:
-            json.dump({"pandoc-api-version": [1, 22], "meta": {"title": {"t": "MetaString", "c": "Title"}}, "blocks": blocks}, it)
+            json.dump(
+                {
+                    "pandoc-api-version": [1, 22],
+                    "meta": {"title": {"t": "MetaString", "c": "Title"}},
+                    "blocks": blocks,
+                },
+                it,
+            )
         shown = pages_of(room.listing(room.made(name, path)[0]))
-        require(len(shown) == 1 and shown[0].endswith("Title" + "text" * len(blocks)), f"the pages show {shown}")
+        require(
+            len(shown) == 1 and shown[0].endswith("Title" + "text" * len(blocks)),
+            f"the pages show {shown}",
+        )
 
 
 def long_paragraph(room):
@@ -148,7 +202,9 @@ def long_paragraph(room):
     words = [{"t": "Str", "c": "word"}, {"t": "Space"}] * LONG_WORDS
     path = f"{room.folder}/long.json"
     with open(path, "w", encoding="ascii") as it:
-        json.dump({"pandoc-api-version": [1, 22], "meta": {}, "blocks": [{"t": "Para", "c": words}]}, it)
+        json.dump(
+            {"pandoc-api-version": [1, 22], "meta": {}, "blocks": [{"t": "Para", "c": words}]}, it
+        )
     shown = "".join(pages_of(room.listing(room.made("long", path)[0])))
     require(shown.count("word") == LONG_WORDS, f"the pages show {shown.count('word')} words")
 
@@ -164,7 +220,9 @@ def several_jobs(room):
     """A document of several jobs has the pages of one, however many pages a job takes."""
     whole = room.listing(room.made("one", document(room.root, "notes"))[0])
     for most in (1, 3):
-        parts = room.listing(room.made(f"jobs{most}", document(room.root, "notes"), "--job-pages", str(most))[0])
+        parts = room.listing(
+            room.made(f"jobs{most}", document(room.root, "notes"), "--job-pages", str(most))[0]
+        )
         require(parts == whole, f"with {most} pages a job the pages are others")
 
 
@@ -172,12 +230,22 @@ def many_specials(room):
     """A document with more bytes of specials than a job ships has all its links, in order."""
     addresses = [f"https://example.org/{it}/{'a' * ADDRESS}" for it in range(LINKS)]
     require(2 * LINKS * ADDRESS > MOST_SPECIAL, "the links are too few")
-    blocks = [{"t": "Para", "c": [{"t": "Link", "c": [["", [], []], [{"t": "Str", "c": f"link{at}"}], [it, ""]]}]} for at, it in enumerate(addresses) for _ in range(2)]
+    blocks = [
+        {
+            "t": "Para",
+            "c": [{"t": "Link", "c": [["", [], []], [{"t": "Str", "c": f"link{at}"}], [it, ""]]}],
+        }
+        for at, it in enumerate(addresses)
+        for _ in range(2)
+    ]
     path = f"{room.folder}/links.json"
     with open(path, "w", encoding="ascii") as it:
         json.dump({"pandoc-api-version": [1, 22], "meta": {}, "blocks": blocks}, it)
     listing = room.listing(room.made("links", path)[0])
-    require(re.findall(r"/URI\((.*?)\)", listing) == [it for it in addresses for _ in range(2)], "the links are others")
+    require(
+        re.findall(r"/URI\((.*?)\)", listing) == [it for it in addresses for _ in range(2)],
+        "the links are others",
+    )
     shown = [text for page in pages_of(listing) for text in re.findall(r"link\d+", page)]
     require(shown == [f"link{at}" for at in range(LINKS) for _ in range(2)], "the texts are others")
 
@@ -202,13 +270,19 @@ def manual(programs, root):
         if not page:
             return "there is no manual page of pandoc"
         text = finished(["zcat", "-f", page], check=True).stdout
-        made = finished(["pandoc", "-f", "man", "-t", "json", "-o", f"{folder}/it.json"], input=text, check=True)
+        made = finished(
+            ["pandoc", "-f", "man", "-t", "json", "-o", f"{folder}/it.json"], input=text, check=True
+        )
         said = convert(programs, root, f"{folder}/it.dvi", f"{folder}/it.json")
         made = finished(["dvipdfmx", "-q", "-o", f"{folder}/it.pdf", f"{folder}/it.dvi"])
         count = int(SUMMARY.search(said)[1])
         if made.returncode or made.stderr.strip():
             return f"dvipdfmx says {last_lines(made.stderr)}"
-        return None if count > MANUAL and SUMMARY.search(said)[2] == "0" else f"{count} pages: {SUMMARY.search(said)[0]}"
+        return (
+            None
+            if count > MANUAL and SUMMARY.search(said)[2] == "0"
+            else f"{count} pages: {SUMMARY.search(said)[0]}"
+        )
 
 
 def checked(check, programs, root):
@@ -219,14 +293,26 @@ def checked(check, programs, root):
 
 def cases_of(*checks):
     """The cases of a part."""
+
     def cases(programs, root):
         for check in checks:
-            call = partial(check, programs, root) if check in (types, manual) else partial(checked, check, programs, root)
+            call = (
+                partial(check, programs, root)
+                if check in (types, manual)
+                else partial(checked, check, programs, root)
+            )
             yield check.__name__, call
+
     return cases
 
 
 def parts(_root):
     """The two parts."""
-    yield Part("pandoc_pages", TITLE, cases_of(kinds, notes, small, long_paragraph, again, several_jobs, many_specials, types), "library", True)
+    yield Part(
+        "pandoc_pages",
+        TITLE,
+        cases_of(kinds, notes, small, long_paragraph, again, several_jobs, many_specials, types),
+        "library",
+        True,
+    )
     yield Part("pandoc_manual", MANUAL_TITLE, cases_of(manual), "library", True)

@@ -22,5 +22,9 @@ def cases(programs, root):
     batch = Batch(root, [f"{folder}/{it}" for it in names])
     for name in names:
         case = f"{folder}/{name}"
-        call = functools.partial(on_each, programs, functools.partial(case_folder.differs, case, root)) if programs else functools.partial(batch.outcome, case)
+        call = (
+            functools.partial(on_each, programs, functools.partial(case_folder.differs, case, root))
+            if programs
+            else functools.partial(batch.outcome, case)
+        )
         yield name, functools.partial(checked, case, call)

@@ -30,9 +30,14 @@ TITLE = "docs/QUICKSTART.md: its commands in a fresh folder and a fresh HOME, wh
 PROGRAM = "library"
 NEEDS_PROGRAM = True
 # A fenced block after a line that says where to save it; a fenced output; and indented commands.
-BLOCK = re.compile(r"(?m)^Save .* as `(?P<path>\S+)`:\n\n```\w+\n(?P<content>(?:.*\n)*?)```$|^```text\n(?P<output>(?:.*\n)*?)```$|(?P<commands>(?:^    .*\n)+)")
+BLOCK = re.compile(
+    r"(?m)^Save .* as `(?P<path>\S+)`:\n\n```\w+\n(?P<content>(?:.*\n)*?)```$|^```text\n(?P<output>(?:.*\n)*?)```$|(?P<commands>(?:^    .*\n)+)"
+)
 BUILD = re.compile(r"(?m)^\./install.*?(?= &&|$)")
-BUILDS = {"./install --unproved": "{root}/install --program {program}", "./install --library --unproved": "{root}/install --library {archive} --program {program}"}
+BUILDS = {
+    "./install --unproved": "{root}/install --program {program}",
+    "./install --library --unproved": "{root}/install --library {archive} --program {program}",
+}
 SCRIPT, DVI, FONT = "out/hello.box", "out/hello.dvi", "cmtt10=examples/plain.tfm"
 DRIVERS, VENV = ("dvipng", "dvipdfmx"), "out/venv"
 # How the line of a proved program goes on.
@@ -41,14 +46,17 @@ PROVED = "(rattle logic "
 DPI, INCH = 110, 72.27
 # The times of docs/internal/GATE.md, and how the document says them.
 INSTALL = r"(?m)^\| `bench/gate_times.py ./install --library` \|"
-TIMES = {r"(?m)^\| README's first command \| four cores of [^|]* \| (\d+) s by the clock \|": "took {} seconds",
-         rf"{INSTALL} four cores of [^|]* \| (\d+) minutes,": "took {} minutes on four cores",
-         rf"{INSTALL} four quiet cores of a faster machine \| (\d+) minutes,": "and {} minutes on a faster machine"}
+TIMES = {
+    r"(?m)^\| README's first command \| four cores of [^|]* \| (\d+) s by the clock \|": "took {} seconds",
+    rf"{INSTALL} four cores of [^|]* \| (\d+) minutes,": "took {} minutes on four cores",
+    rf"{INSTALL} four quiet cores of a faster machine \| (\d+) minutes,": "and {} minutes on a faster machine",
+}
 
 
 @dataclass
 class Step:
     """Commands, the files to save before them, and what they print, if the document shows it."""
+
     commands: str
     files: dict
     output: list = field(default_factory=list)
@@ -75,12 +83,16 @@ def steps(text):
 
 def pattern(output):
     """The pattern of an output: a line of two dots stands for any lines, and two dots inside of a line for any text."""
-    return "".join(r"(?:.*\n)*" if line == ".." else ".*".join(map(re.escape, line.split(".."))) + r"\n" for line in output.splitlines())
+    return "".join(
+        r"(?:.*\n)*" if line == ".." else ".*".join(map(re.escape, line.split(".."))) + r"\n"
+        for line in output.splitlines()
+    )
 
 
 @dataclass(frozen=True)
 class Room:
     """A fresh folder and a fresh HOME, and what is installed in place of a build."""
+
     root: str
     path: str
     archive: str
@@ -90,12 +102,20 @@ class Room:
         """Runs commands of the shell, and returns what they print."""
         for build in BUILD.findall(text):
             require(build in BUILDS, f"nothing replaces {build!r}")
-            paths = {name: shlex.quote(getattr(self, name)) for name in ("root", "archive", "program")}
+            paths = {
+                name: shlex.quote(getattr(self, name)) for name in ("root", "archive", "program")
+            }
             text = text.replace(build, BUILDS[build].format(**paths))
         # The Python that runs this is on the path, and not what chooses one by files in HOME.
-        env = {"PATH": f"{os.path.dirname(sys.executable)}:{os.environ['PATH']}", "HOME": f"{self.path}/home"}
+        env = {
+            "PATH": f"{os.path.dirname(sys.executable)}:{os.environ['PATH']}",
+            "HOME": f"{self.path}/home",
+        }
         ran = finished(["bash", "-euo", "pipefail", "-c", text], cwd=self.path, env=env)
-        require(ran.returncode == 0, f"the status is {ran.returncode}: {last_lines(ran.stderr or ran.stdout)}")
+        require(
+            ran.returncode == 0,
+            f"the status is {ran.returncode}: {last_lines(ran.stderr or ran.stdout)}",
+        )
         return ran.stdout.decode()
 
     def save(self, files):
@@ -116,7 +136,11 @@ class Room:
 def room(root, archive, program):
     """The room of a program."""
     path = f"{own_folder()}/quickstart"
-    shutil.copytree(f"{root}/examples", f"{path}/examples", ignore=shutil.ignore_patterns("__pycache__", "target"))
+    shutil.copytree(
+        f"{root}/examples",
+        f"{path}/examples",
+        ignore=shutil.ignore_patterns("__pycache__", "target"),
+    )
     os.mkdir(f"{path}/home")
     return Room(root, path, archive, program)
 
@@ -124,7 +148,10 @@ def room(root, archive, program):
 def check_page(it):
     """The page has the letters of the script, in order."""
     listing = run(it.program, it.path, ["list", DVI, FONT])
-    require(shown_on_pages(listing) == [characters(it.script().values())], "the page does not show the text of the script")
+    require(
+        shown_on_pages(listing) == [characters(it.script().values())],
+        "the page does not show the text of the script",
+    )
 
 
 def picture_size(data):
@@ -137,30 +164,55 @@ def check_picture(it):
     """The picture is as wide as the script's lines, and the one in the document is as large; drivers may differ by a pixel."""
     columns, rows = picture_size(it.content("out/hello.png"))
     shown_columns, shown_rows = picture_size(content(f"{it.root}/docs/quickstart.png"))
-    width, = (int(words[2].removesuffix("pt")) for words in it.script().values() if words[:2] == ["set", "hsize"])
+    (width,) = (
+        int(words[2].removesuffix("pt"))
+        for words in it.script().values()
+        if words[:2] == ["set", "hsize"]
+    )
     require(abs(columns - width / INCH * DPI) < 4, f"the picture has {columns} columns")
-    require(abs(columns - shown_columns) < 2 and abs(rows - shown_rows) < 2, f"docs/quickstart.png is not {columns} by {rows} pixels")
+    require(
+        abs(columns - shown_columns) < 2 and abs(rows - shown_rows) < 2,
+        f"docs/quickstart.png is not {columns} by {rows} pixels",
+    )
 
 
 def check_pdf(it):
     """The file is a whole PDF."""
     made = it.content("out/hello.pdf")
-    require(made.startswith(b"%PDF-") and made.rstrip().endswith(b"%%EOF"), "out/hello.pdf is not a PDF")
+    require(
+        made.startswith(b"%PDF-") and made.rstrip().endswith(b"%%EOF"), "out/hello.pdf is not a PDF"
+    )
 
 
 def check_marks(it):
     """The line about the marks of the document counts the letters of the script."""
-    require(f"\n{len(characters(it.script().values()))} marks, " in document(it.root), "the document shows another number of marks")
+    require(
+        f"\n{len(characters(it.script().values()))} marks, " in document(it.root),
+        "the document shows another number of marks",
+    )
 
 
 def check_svg(it):
     """The SVG has the letters of the script, in order."""
-    letters = [ord(one.text) for one in ElementTree.fromstring(it.content("out/hello-1.svg")).iter("{http://www.w3.org/2000/svg}text")]
-    require(letters == characters(it.script().values()), "the SVG does not show the text of the script")
+    letters = [
+        ord(one.text)
+        for one in ElementTree.fromstring(it.content("out/hello-1.svg")).iter(
+            "{http://www.w3.org/2000/svg}text"
+        )
+    ]
+    require(
+        letters == characters(it.script().values()), "the SVG does not show the text of the script"
+    )
 
 
 # What is checked after the commands with these words.
-CHECKS = {f"boxglue typeset {DVI}": check_page, "dvipng ": check_picture, "dvipdfmx ": check_pdf, "out/hello.py": check_marks, "svg_pages.py": check_svg}
+CHECKS = {
+    f"boxglue typeset {DVI}": check_page,
+    "dvipng ": check_picture,
+    "dvipdfmx ": check_pdf,
+    "out/hello.py": check_marks,
+    "svg_pages.py": check_svg,
+}
 
 
 def lacks_tool(text):
@@ -174,7 +226,9 @@ def lacks_tool(text):
 
 def wanted_of(output, program):
     """The pattern of what a step has to print: a proved program has another version line than the document shows."""
-    return pattern(output if SAYS.encode() in content(program) else output.replace(SAYS, f"{PROVED}..)"))
+    return pattern(
+        output if SAYS.encode() in content(program) else output.replace(SAYS, f"{PROVED}..)")
+    )
 
 
 def outcome(root, step, exports, archive=None, program=None, *_programs):
@@ -186,7 +240,10 @@ def outcome(root, step, exports, archive=None, program=None, *_programs):
     it.save(step.files)
     printed = it.shell(f"{exports}{step.commands}")
     for output in step.output:
-        require(re.fullmatch(wanted_of(output, program), printed), f"it prints {printed[-300:]!r} and not {output!r}")
+        require(
+            re.fullmatch(wanted_of(output, program), printed),
+            f"it prints {printed[-300:]!r} and not {output!r}",
+        )
     for words, check in CHECKS.items():
         if words in step.commands:
             check(it)
@@ -200,8 +257,13 @@ def form(root):
     fences = sum(len(it.files) + len(it.output) for it in found)
     builds = [build for it in found for build in BUILD.findall(it.commands)]
     checked = {words: sum(words in it.commands for it in found) for words in CHECKS}
-    wrong = {f"{text.count('```')} fences, of which {2 * fences} are read": text.count("```") != 2 * fences, f"the builds {builds}": builds != [*BUILDS],
-             f"steps with the words {checked}": {*checked.values()} != {1}, "two outputs after one step": any(len(it.output) > 1 for it in found)}
+    wrong = {
+        f"{text.count('```')} fences, of which {2 * fences} are read": text.count("```")
+        != 2 * fences,
+        f"the builds {builds}": builds != [*BUILDS],
+        f"steps with the words {checked}": {*checked.values()} != {1},
+        "two outputs after one step": any(len(it.output) > 1 for it in found),
+    }
     return "; ".join(it for it, is_wrong in wrong.items() if is_wrong) or None
 
 
@@ -217,11 +279,16 @@ def first_page(root, archive=None, program=None, *_programs):
     """Whether README.md shows what its calls print, and begins with this document's line that builds and sets a page."""
     fence = re.compile(r"(?ms)^```python\n(.*?)^```$")
     calls = fence.search(document(root, "README.md"))[1]
-    answers, builds, *_ = (textwrap.dedent(it) for it in re.findall(r"(?:^    +.*\n)+", fence.sub("", document(root, "README.md")), re.M))
+    answers, builds, *_ = (
+        textwrap.dedent(it)
+        for it in re.findall(r"(?:^    +.*\n)+", fence.sub("", document(root, "README.md")), re.M)
+    )
     words, env = python_words(root, archive, ["-c", calls])
     printed = finished(words, cwd=root, env=env, text=True).stdout
-    wrong = {f"its calls print {printed!r}": printed != answers,
-             f"its first commands are {builds!r}": builds != steps(document(root))[0].commands}
+    wrong = {
+        f"its calls print {printed!r}": printed != answers,
+        f"its first commands are {builds!r}": builds != steps(document(root))[0].commands,
+    }
     return "; ".join(it for it, is_wrong in wrong.items() if is_wrong) or None
 
 
@@ -232,5 +299,7 @@ def cases(programs, root):
     yield "README.md", partial(first_page, root, *programs)
     exports = ""
     for number, step in enumerate(steps(document(root)), 1):
-        yield f"step {number}: {' '.join(step.commands.split()[:3])}", partial(outcome, root, step, exports, *programs)
+        yield f"step {number}: {' '.join(step.commands.split()[:3])}", partial(
+            outcome, root, step, exports, *programs
+        )
         exports += "".join(re.findall(r"^export .*\n", step.commands, re.M))

@@ -18,15 +18,26 @@ LIMIT = 60
 PAGE = "docs/REFUSALS.md"
 NUMBERS = "crates/boxglue_program/src/refusals.rt"
 # Those that no command answers, with the source that prints them.
-OTHER_NUMBERS = {"BadScript": "crates/boxglue_program/src/texts.rt", "BadDvi": "crates/boxglue_print/src/faults.rt"}
-CAUSES = {"BadScript": ("crates/boxglue_script/src/cause.rt", "Cause"), "BadTfm": ("crates/tfm_core/src/fault.rt", "TfmCause"),
-          "BadDvi": ("crates/dvi_scan/src/fault.rt", "DviCause")}
+OTHER_NUMBERS = {
+    "BadScript": "crates/boxglue_program/src/texts.rt",
+    "BadDvi": "crates/boxglue_print/src/faults.rt",
+}
+CAUSES = {
+    "BadScript": ("crates/boxglue_script/src/cause.rt", "Cause"),
+    "BadTfm": ("crates/tfm_core/src/fault.rt", "TfmCause"),
+    "BadDvi": ("crates/dvi_scan/src/fault.rt", "DviCause"),
+}
 # Where docs/FORMATS.md has their tables: after the first text, and before the second.
-IN_FORMATS = {"BadScript": ("### Bad scripts", "Only a keyword"), "BadTfm": ("A file is refused with the first", "The file `tiny`"),
-              "BadDvi": ("### The reader", "## 8.")}
+IN_FORMATS = {
+    "BadScript": ("### Bad scripts", "Only a keyword"),
+    "BadTfm": ("A file is refused with the first", "The file `tiny`"),
+    "BadDvi": ("### The reader", "## 8."),
+}
 # How a byte is shown that a table cannot show.
 SHOWN = {"<tab>": "\t", "<space>": " "}
-DOCUMENTS = "README.md CHANGELOG.md docs/*.md crates/*/README.md examples/**/*.md bindings/**/*.md".split()
+DOCUMENTS = (
+    "README.md CHANGELOG.md docs/*.md crates/*/README.md examples/**/*.md bindings/**/*.md".split()
+)
 # The script of page.dvi.
 TEXT_PAGE = "font 0 cmr10\nuse 0\nhbox into 0\ntext A page\nend\nship 0\n"
 
@@ -39,26 +50,41 @@ def sections(root):
 
 def refusals(root):
     """The refusals of the page: number, name, and the first sentence below the heading."""
-    return [(*heading.split(), body.strip().split("\n")[0]) for heading, body in sections(root).items() if re.fullmatch(r"\d+ \w+", heading)]
+    return [
+        (*heading.split(), body.strip().split("\n")[0])
+        for heading, body in sections(root).items()
+        if re.fullmatch(r"\d+ \w+", heading)
+    ]
 
 
 def causes(root, name):
     """The causes of a refusal that the page has."""
-    return [heading.split()[1] for heading in sections(root) if re.fullmatch(rf"{name} \w+", heading)]
+    return [
+        heading.split()[1] for heading in sections(root) if re.fullmatch(rf"{name} \w+", heading)
+    ]
 
 
 def apart(here, there, least):
     """What is in one of two lists and not in the other; each has to have so many."""
     if sorted(here) == sorted(there) and len(here) >= least:
         return None
-    return f"these are not in both: {sorted({*here} ^ {*there})}" if here and there else "nothing was found"
+    return (
+        f"these are not in both: {sorted({*here} ^ {*there})}"
+        if here and there
+        else "nothing was found"
+    )
 
 
 def numbers(root):
     """The numbers and names, compared with the sources."""
-    there = re.findall(r'Refusal::\w+(?:\(\w+\))? => \((\d+), (?:"(\w+)"|metric)', read(f"{root}/{NUMBERS}"))
+    there = re.findall(
+        r'Refusal::\w+(?:\(\w+\))? => \((\d+), (?:"(\w+)"|metric)', read(f"{root}/{NUMBERS}")
+    )
     there = [(number, name or "BadTfm") for number, name in there]
-    there += [(re.search(rf'"refused (\d+) {name} "', read(f"{root}/{path}"))[1], name) for name, path in OTHER_NUMBERS.items()]
+    there += [
+        (re.search(rf'"refused (\d+) {name} "', read(f"{root}/{path}"))[1], name)
+        for name, path in OTHER_NUMBERS.items()
+    ]
     here = [(number, name) for number, name, _ in refusals(root)]
     rising = here == sorted(here, key=lambda it: int(it[0]))
     return apart(here, there, 22) or (None if rising else "the numbers do not rise")
@@ -75,7 +101,9 @@ def causes_of_formats(root, name):
     """The same causes are those of docs/FORMATS.md: the first word of a row's first cell, and in a table of checks that of the second."""
     begins, ends = IN_FORMATS[name]
     text = read(f"{root}/docs/FORMATS.md").partition(begins)[2].partition(ends)[0]
-    found = re.findall(r"^\| ([A-Z]\w+) \|", text, re.M) + re.findall(r"^\| [^|]* \| ([A-Z]\w+), [^|]*\|$", text, re.M)
+    found = re.findall(r"^\| ([A-Z]\w+) \|", text, re.M) + re.findall(
+        r"^\| [^|]* \| ([A-Z]\w+), [^|]*\|$", text, re.M
+    )
     return apart(causes(root, name), {*found}, 6)
 
 
@@ -93,9 +121,13 @@ def form(root):
 
 def manual(root):
     """The table of the manual page has the same numbers, names and sentences."""
-    part = re.search(r"^\.SS Refusals\n(.*?)^\.S[HS] ", read(f"{root}/docs/boxglue.1"), re.M | re.S)[1]
+    part = re.search(
+        r"^\.SS Refusals\n(.*?)^\.S[HS] ", read(f"{root}/docs/boxglue.1"), re.M | re.S
+    )[1]
     rows = re.findall(r"^(\d+);(\w+);T\{\n(.*?)\nT\}$", part, re.M | re.S)
-    here = [(number, name, line.replace("\n", " ").replace("\\-", "-")) for number, name, line in rows]
+    here = [
+        (number, name, line.replace("\n", " ").replace("\\-", "-")) for number, name, line in rows
+    ]
     return apart(here, refusals(root), 22)
 
 
@@ -108,11 +140,23 @@ def headings_of(text):
 def links(root):
     """Links to headings of the page, from itself and from other documents."""
     known, found = headings_of(read(f"{root}/{PAGE}")), []
-    for path in sorted({os.path.relpath(it, root) for pattern in DOCUMENTS for it in glob.glob(f"{root}/{pattern}", recursive=True)}):
+    for path in sorted(
+        {
+            os.path.relpath(it, root)
+            for pattern in DOCUMENTS
+            for it in glob.glob(f"{root}/{pattern}", recursive=True)
+        }
+    ):
         own = r"(?:REFUSALS\.md)?" if path == PAGE else r"(?:[\w./]*/)?REFUSALS\.md"
         found += [(path, it) for it in re.findall(rf"\]\({own}#([^)]*)\)", read(f"{root}/{path}"))]
     wrong = [f"{path}: {it}" for path, it in found if it not in known]
-    return f"no heading for {', '.join(wrong)}" if wrong else None if len(found) > 15 else "few links are found"
+    return (
+        f"no heading for {', '.join(wrong)}"
+        if wrong
+        else None
+        if len(found) > 15
+        else "few links are found"
+    )
 
 
 def rows(text, first):
@@ -145,7 +189,15 @@ class Folder:
     def shell(self, line, given=b""):
         """The lines that a command of the shell prints, on both streams."""
         env = {"PATH": f"{self.path}/bin:{os.environ['PATH']}"}
-        ran = subprocess.run(["sh", "-c", line], input=given, cwd=self.path, env=env, stdout=subprocess.PIPE, stderr=subprocess.STDOUT, timeout=LIMIT)
+        ran = subprocess.run(
+            ["sh", "-c", line],
+            input=given,
+            cwd=self.path,
+            env=env,
+            stdout=subprocess.PIPE,
+            stderr=subprocess.STDOUT,
+            timeout=LIMIT,
+        )
         return ran.stdout.decode().splitlines()
 
     def typeset(self, script, output="script.dvi"):
@@ -168,7 +220,11 @@ def shown_answers(root, folder):
     found = [*rows(read(f"{root}/{PAGE}"), "you wrote \\| you see")]
     for wrote, see, _ in found:
         lines, wanted = spans(wrote), spans(see)
-        answers = folder.shell(lines[0]) if lines[0].startswith("boxglue ") else folder.typeset("".join(f"{it}\n" for it in lines))
+        answers = (
+            folder.shell(lines[0])
+            if lines[0].startswith("boxglue ")
+            else folder.typeset("".join(f"{it}\n" for it in lines))
+        )
         told = [it for it in answers if "refused" in it or it.startswith(("boxglue: ", "error: "))]
         if told != wanted and (told or not wanted or not {*wanted} <= {*answers}):
             return f"{wrote} is answered {answers}"
@@ -201,4 +257,6 @@ def cases(programs, root):
     yield "table of the manual page", partial(manual, root)
     yield "links to headings", partial(links, root)
     yield "what was written, and seen", partial(over, programs, root, partial(shown_answers, root))
-    yield "what to write in place of bad lines", partial(over, programs, root, partial(bad_lines, root))
+    yield "what to write in place of bad lines", partial(
+        over, programs, root, partial(bad_lines, root)
+    )

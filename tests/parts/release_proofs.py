@@ -23,7 +23,7 @@ STANDS_IN = SAYS.replace("UNPROVED", "STAND-IN")
 # What makes no difference to proofs.
 LEFT_OUT = re.compile(r"(?:tests|bench)/|crates/\w+/(?!src/|specs/|proofs/|std)")
 # Prints a text, and may then be silent.
-ANSWERS = "#!/bin/sh\ncat \"$SAID\"\n[ -z \"$SILENT\" ] || sleep 50\n"
+ANSWERS = '#!/bin/sh\ncat "$SAID"\n[ -z "$SILENT" ] || sleep 50\n'
 QUESTION = """import sys, tempfile
 from tools import commands
 from tools.releases import builds
@@ -53,7 +53,9 @@ loader.exec_module(archive)
 crate = next(it for it in archive.rtlib.crates_below(os.getcwd()) if it.name == "boxglue_c")
 print(archive.stamp_of(crate) + archive.rtlib.sum_of("crates/boxglue_c/out/libboxglue_c.a"), end="")
 """
-KEPT = "rt: {} is kept: an earlier run on this machine proved the same files over the same libraries\n"
+KEPT = (
+    "rt: {} is kept: an earlier run on this machine proved the same files over the same libraries\n"
+)
 END_OF_CI = "rt: ok; handles allowed: none; done in this run: {} of the 2 proofs (of crates and of their tests); the others are kept from earlier runs of the same files on this machine\n"
 
 
@@ -63,9 +65,19 @@ def asks_rt(text, is_silent, wanted, root):
         write(f"{room}/rt", ANSWERS.encode())
         write(f"{room}/said", text.encode())
         os.chmod(f"{room}/rt", 0o755)
-        env = {"PATH": f"{room}:{os.environ['PATH']}", "SAID": f"{room}/said", "SILENT": "1" * is_silent, "PYTHONPATH": root, "PYTHONDONTWRITEBYTECODE": "1"}
+        env = {
+            "PATH": f"{room}:{os.environ['PATH']}",
+            "SAID": f"{room}/said",
+            "SILENT": "1" * is_silent,
+            "PYTHONPATH": root,
+            "PYTHONDONTWRITEBYTECODE": "1",
+        }
         status, output, errors = run([sys.executable, "-c", QUESTION], room, **env)
-        return None if wanted in output + errors and (status == 0) == (wanted == "0 of the 2 proofs") else f"the status is {status}: {(output + errors)[-300:]!r}"
+        return (
+            None
+            if wanted in output + errors and (status == 0) == (wanted == "0 of the 2 proofs")
+            else f"the status is {status}: {(output + errors)[-300:]!r}"
+        )
 
 
 def made_clone(root, archive, program, room):
@@ -76,7 +88,11 @@ def made_clone(root, archive, program, room):
     for name in ("boxglue", "rt"):
         os.chmod(f"{room}/{name}", 0o755)
     clone = copied(root, f"{room}/clone", LEFT_OUT)
-    dated = re.sub(r"(?m)^(## [\d.]+), not released yet$", r"\1, 30 November 2026", content(f"{clone}/CHANGELOG.md").decode())
+    dated = re.sub(
+        r"(?m)^(## [\d.]+), not released yet$",
+        r"\1, 30 November 2026",
+        content(f"{clone}/CHANGELOG.md").decode(),
+    )
     write(f"{clone}/CHANGELOG.md", dated.encode())
     committed(clone)
     os.makedirs(f"{clone}/crates/boxglue_c/out")
@@ -99,12 +115,23 @@ def released(root, archive=None, program=None, *_programs):
             return f"the status is {status}: {(errors or output)[-300:]!r}"
         names = sorted(it for it in os.listdir(f"{room}/made") if not it.endswith(".whl"))
         report = content(f"{room}/made/PROVED.txt").decode() if "PROVED.txt" in names else ""
-        if len(names) != 11 or any("unproved" in it.lower() for it in names) or "0 of the 40 proofs" not in report or " boxglue_c\n" not in report:
+        if (
+            len(names) != 11
+            or any("unproved" in it.lower() for it in names)
+            or "0 of the 40 proofs" not in report
+            or " boxglue_c\n" not in report
+        ):
             return f"the files are {names}, and the report {report!r}"
         with open(f"{clone}/crates/boxglue_c/out/libboxglue_c.a", "ab") as it:
             it.write(b"\n")
         status, output, errors = run([f"{clone}/tools/release", f"{room}/other"], room, **env)
-        return None if status == 1 and "proves nothing: lib" in errors and not os.path.exists(f"{room}/other") else f"another archive: the status is {status}: {(errors or output)[-300:]!r}"
+        return (
+            None
+            if status == 1
+            and "proves nothing: lib" in errors
+            and not os.path.exists(f"{room}/other")
+            else f"another archive: the status is {status}: {(errors or output)[-300:]!r}"
+        )
 
 
 def cases(programs, root):
@@ -112,9 +139,20 @@ def cases(programs, root):
     yield "a release", partial(released, root, *programs)
     kept = KEPT.format("left") + KEPT.format("right")
     asked = {
-        "all is proved": (kept + END_OF_CI.format(0), False, "0 of the 2 proofs"), "something was proved": (kept + END_OF_CI.format(1), False, "refused"),
-        "a crate is proved now": (KEPT.format("left") + "== right\nrt: right proved\n", True, "left to prove: right"), "a crate takes long": (KEPT.format("left"), True, "left to prove: right"),
-        "no end": (kept, False, "refused"), "a crate is lost": (KEPT.format("left") + END_OF_CI.format(0), False, "left to prove: right"),
+        "all is proved": (kept + END_OF_CI.format(0), False, "0 of the 2 proofs"),
+        "something was proved": (kept + END_OF_CI.format(1), False, "refused"),
+        "a crate is proved now": (
+            KEPT.format("left") + "== right\nrt: right proved\n",
+            True,
+            "left to prove: right",
+        ),
+        "a crate takes long": (KEPT.format("left"), True, "left to prove: right"),
+        "no end": (kept, False, "refused"),
+        "a crate is lost": (
+            KEPT.format("left") + END_OF_CI.format(0),
+            False,
+            "left to prove: right",
+        ),
     }
     for name, words in asked.items():
         yield name, partial(asks_rt, *words, root)

@@ -42,7 +42,7 @@ END, ENDS = "end: pages 1 bytes 976\n", "end: pages 1 bytes 232\n"
 # Lines of the shell in a fresh system. The first two are all that README.md needs.
 LISTED = "find / -xdev \\( -path /proc -o -path /tmp -o -path /given \\) -prune -o -print | sort"
 TARBALL = "tar -C /tmp -xf /given/boxglue-*-linux.tar.gz && /tmp/boxglue-*-linux/install.sh --prefix /usr/local > /tmp/said\n"
-PAGE = "cd /tmp && boxglue typeset page.dvi cmtt10=DOC/examples/plain.tfm < DOC/examples/first_page.box | tail -n 1 && test \"$(stat -c %s page.dvi)\" = 976\n"
+PAGE = 'cd /tmp && boxglue typeset page.dvi cmtt10=DOC/examples/plain.tfm < DOC/examples/first_page.box | tail -n 1 && test "$(stat -c %s page.dvi)" = 976\n'
 METRICS = "/usr/local/share/doc/boxglue/examples/plain.tfm"
 PACKAGED = "dpkg -i /given/*.deb > /tmp/said 2>&1\n"
 C = "cd /tmp && cc -std=c99 -Wall -Werror -o page /given/page.c $(pkg-config --cflags --libs boxglue) && LD_LIBRARY_PATH=LIB ./page METRICS page.dvi | tail -n 1\n"
@@ -74,13 +74,17 @@ def done(words, cwd, **env):
     """Runs a command that has to succeed, and returns what it printed."""
     status, output, errors = run(words, cwd, **env)
     if status:
-        raise AssertionError(f"{os.path.basename(words[0])}: the status is {status}: {last_lines((errors or output).encode())}")
+        raise AssertionError(
+            f"{os.path.basename(words[0])}: the status is {status}: {last_lines((errors or output).encode())}"
+        )
     return output
 
 
 def copied(root, folder, left_out=LEFT_OUT):
     """A folder with the files that the repository has now."""
-    for name in done(["git", "ls-files", "-z", "--cached", "--others", "--exclude-standard"], root).split("\0"):
+    for name in done(
+        ["git", "ls-files", "-z", "--cached", "--others", "--exclude-standard"], root
+    ).split("\0"):
         if name and not left_out.match(name) and os.path.exists(f"{root}/{name}"):
             os.makedirs(os.path.dirname(f"{folder}/{name}"), exist_ok=True)
             shutil.copy(f"{root}/{name}", f"{folder}/{name}")
@@ -89,7 +93,11 @@ def copied(root, folder, left_out=LEFT_OUT):
 
 def committed(folder):
     """The folder as a clone of which a release can be made: its files as a commit."""
-    env = {f"GIT_{who}_{what}": value for who in ("AUTHOR", "COMMITTER") for what, value in (("NAME", "a"), ("EMAIL", "a@b"), ("DATE", f"@{SECONDS} +0000"))}
+    env = {
+        f"GIT_{who}_{what}": value
+        for who in ("AUTHOR", "COMMITTER")
+        for what, value in (("NAME", "a"), ("EMAIL", "a@b"), ("DATE", f"@{SECONDS} +0000"))
+    }
     for words in (["init", "--quiet"], ["add", "--all"], ["commit", "--quiet", "--message", "all"]):
         done(["git", *words], folder, **env, GIT_CONFIG_GLOBAL="/dev/null")
     return folder
@@ -122,13 +130,19 @@ def over(call, root, archive, program, *_programs):
 
 def spellings(made):
     """The version, in the spelling of each kind of package."""
-    number = re.search(r"/boxglue-([\d.]+)\.dev0\+unproved-x86_64-linux\.tar\.gz$", only(made, "*-linux.tar.gz"))[1]
-    return {"python": f"{number}.dev0+unproved", "cargo": f"{number}-dev.0+unproved", "debian": f"{number}~dev0+unproved"}
+    number = re.search(
+        r"/boxglue-([\d.]+)\.dev0\+unproved-x86_64-linux\.tar\.gz$", only(made, "*-linux.tar.gz")
+    )[1]
+    return {
+        "python": f"{number}.dev0+unproved",
+        "cargo": f"{number}-dev.0+unproved",
+        "debian": f"{number}~dev0+unproved",
+    }
 
 
 def only(folder_of, pattern):
     """The one file of a pattern."""
-    path, = glob.glob(f"{folder_of}/{pattern}")
+    (path,) = glob.glob(f"{folder_of}/{pattern}")
     return path
 
 
@@ -138,7 +152,9 @@ def names_wrong(_root, made):
     if wanted != found:
         return f"these files are there or not there: {sorted(wanted ^ found)}"
     said = done(["sha256sum", "--check", "--strict", "SHA256SUMS"], made)
-    return None if len(said.splitlines()) == len(wanted) - 1 else f"SHA256SUMS has {said.splitlines()}"
+    return (
+        None if len(said.splitlines()) == len(wanted) - 1 else f"SHA256SUMS has {said.splitlines()}"
+    )
 
 
 def twice(root, archive, program, *_programs):
@@ -146,7 +162,11 @@ def twice(root, archive, program, *_programs):
     first, second = (released(root, archive, program, number) for number in (1, 2))
     if isinstance(first, Skipped):
         return first
-    others = [it for it in sorted(os.listdir(first)) if content(f"{first}/{it}") != content(f"{second}/{it}")]
+    others = [
+        it
+        for it in sorted(os.listdir(first))
+        if content(f"{first}/{it}") != content(f"{second}/{it}")
+    ]
     return f"other bytes when made again: {', '.join(others)}" if others else None
 
 
@@ -155,11 +175,24 @@ def bill_wrong(root, made):
     bill = json.loads(content(only(made, "*.spdx.json")))
     versions = {it["name"]: it["versionInfo"] for it in bill["packages"]}
     kit, _, logic = done(["rt", "version"], root).strip().partition(" ")
-    lost = [it for it in ("itoa", "byteorder", "smallvec", "memchr", "clap", "thiserror", "std") if kit not in versions.get(f"rattle-{it}", "")]
+    lost = [
+        it
+        for it in ("itoa", "byteorder", "smallvec", "memchr", "clap", "thiserror", "std")
+        if kit not in versions.get(f"rattle-{it}", "")
+    ]
     sums = {it["fileName"]: it["checksums"][0]["checksumValue"] for it in bill["files"]}
-    listed = dict(line.split("  ")[::-1] for line in content(f"{made}/SHA256SUMS").decode().splitlines())
+    listed = dict(
+        line.split("  ")[::-1] for line in content(f"{made}/SHA256SUMS").decode().splitlines()
+    )
     wrong = [name for name, value in sums.items() if listed.get(name.removeprefix("./")) != value]
-    if lost or wrong or len(sums) < 9 or versions["glibc"] != ">= 2.14" or logic not in bill["packages"][1]["comment"] or bill["spdxVersion"] != "SPDX-2.3":
+    if (
+        lost
+        or wrong
+        or len(sums) < 9
+        or versions["glibc"] != ">= 2.14"
+        or logic not in bill["packages"][1]["comment"]
+        or bill["spdxVersion"] != "SPDX-2.3"
+    ):
         return f"the bill lacks {lost}, has wrong sums of {wrong} or another glibc: {versions['glibc']}"
     return None
 
@@ -167,7 +200,13 @@ def bill_wrong(root, made):
 def lintian_wrong(_root, made):
     """Errors of lintian beyond the missing licence and the missing address."""
     need("lintian")
-    _, output, _ = run([*"lintian --allow-root --tag-display-limit 0".split(), *sorted(glob.glob(f"{made}/*.deb"))], made)
+    _, output, _ = run(
+        [
+            *"lintian --allow-root --tag-display-limit 0".split(),
+            *sorted(glob.glob(f"{made}/*.deb")),
+        ],
+        made,
+    )
     found = {line.split()[2] for line in output.splitlines() if line.startswith("E: ")} - ALLOWED
     return f"lintian's errors: {', '.join(sorted(found))}" if found else None
 
@@ -179,9 +218,19 @@ def in_system(suite, lines, expected, root, made):
             shutil.copy(f"{made}/{it}", given)
         for name in ("page.c", "page.py"):
             shutil.copy(f"{root}/examples/library/{name}", given)
-        shutil.copytree(f"{root}/examples/library/page", f"{given}/page", ignore=shutil.ignore_patterns("target", "Cargo.lock"))
+        shutil.copytree(
+            f"{root}/examples/library/page",
+            f"{given}/page",
+            ignore=shutil.ignore_patterns("target", "Cargo.lock"),
+        )
         found = run_in(suite, lines.replace("METRICS", METRICS), given)
-    return found if isinstance(found, Skipped) else None if found == expected else f"it prints {found[-300:]!r}"
+    return (
+        found
+        if isinstance(found, Skipped)
+        else None
+        if found == expected
+        else f"it prints {found[-300:]!r}"
+    )
 
 
 def removed(install, page, uninstall):
@@ -192,10 +241,22 @@ def removed(install, page, uninstall):
 
 def damages(made, tarball):
     """A tarball and the SHA256SUMS beside it, which may be missing, for each way in which these can be wrong."""
-    data, sums, half = content(tarball), content(f"{made}/SHA256SUMS"), os.path.getsize(tarball) // 2
-    ours = re.search(rf"(\w{{64}})  {re.escape(os.path.basename(tarball))}\n", sums.decode())[1].encode()
-    return {"cut": (data[:-1000], None), "cut, with its sum": (data[:-1000], sums), "changed": (data[:half] + bytes([data[half] ^ 1]) + data[half + 1:], sums),
-            "a wrong sum": (data, sums.replace(ours, 64 * b"0")), "no sum": (data, b""), "no release": (gzip.compress(b"no tarball"), None)}
+    data, sums, half = (
+        content(tarball),
+        content(f"{made}/SHA256SUMS"),
+        os.path.getsize(tarball) // 2,
+    )
+    ours = re.search(rf"(\w{{64}})  {re.escape(os.path.basename(tarball))}\n", sums.decode())[
+        1
+    ].encode()
+    return {
+        "cut": (data[:-1000], None),
+        "cut, with its sum": (data[:-1000], sums),
+        "changed": (data[:half] + bytes([data[half] ^ 1]) + data[half + 1 :], sums),
+        "a wrong sum": (data, sums.replace(ours, 64 * b"0")),
+        "no sum": (data, b""),
+        "no release": (gzip.compress(b"no tarball"), None),
+    }
 
 
 def damaged(root, made):
@@ -207,7 +268,9 @@ def damaged(root, made):
             write(given, data)
             if sums is not None:
                 write(f"{room}/SHA256SUMS", sums)
-            status, _, errors = run([f"{root}/install", "--from", given, "--prefix", f"{room}/here"], room)
+            status, _, errors = run(
+                [f"{root}/install", "--from", given, "--prefix", f"{room}/here"], room
+            )
             if status != 1 or not errors.startswith("install: ") or os.path.exists(f"{room}/here"):
                 wrong.append(f"{name}: the status is {status}: {errors[-200:]!r}")
     return "; ".join(wrong) or changed_inside(made)
@@ -225,19 +288,33 @@ def changed_inside(made):
         top = unpacked(made, room)
         write(f"{top}/include/boxglue.h", content(f"{top}/include/boxglue.h") + b"\n")
         status, errors = placed(made, room, "--prefix", f"{room}/here")
-        return None if status == 1 and "nothing is put in place" in errors and not os.path.exists(f"{room}/here") else f"a changed file: the status is {status}: {errors[-200:]!r}"
+        return (
+            None
+            if status == 1
+            and "nothing is put in place" in errors
+            and not os.path.exists(f"{room}/here")
+            else f"a changed file: the status is {status}: {errors[-200:]!r}"
+        )
 
 
 def placed(made, room, *words, **env):
     """Runs the installing script of a release, and returns its status and its errors."""
-    top = unpacked(made, room) if not glob.glob(f"{room}/boxglue-*-linux") else only(room, "boxglue-*-linux")
+    top = (
+        unpacked(made, room)
+        if not glob.glob(f"{room}/boxglue-*-linux")
+        else only(room, "boxglue-*-linux")
+    )
     status, _, errors = run(["sh", f"{top}/install.sh", *words], room, **env)
     return status, errors
 
 
 def files_below(top):
     """The files and folders of a folder."""
-    return {os.path.relpath(f"{place}/{it}", top) for place, names, files in os.walk(top) for it in (*names, *files)}
+    return {
+        os.path.relpath(f"{place}/{it}", top)
+        for place, names, files in os.walk(top)
+        for it in (*names, *files)
+    }
 
 
 def kept(_root, made):
@@ -253,30 +330,66 @@ def kept(_root, made):
                 write(listed, b"proved\tbin/boxglue\n")
             before = files_below(prefix)
             stays = placed(made, room, "--prefix", prefix)[0] == 1 and files_below(prefix) == before
-            goes = placed(made, room, "--prefix", prefix, "--replace")[0] == 0 and b"unproved\tbin/boxglue\n" in content(listed)
+            goes = placed(made, room, "--prefix", prefix, "--replace")[
+                0
+            ] == 0 and b"unproved\tbin/boxglue\n" in content(listed)
             again = placed(made, room, "--prefix", prefix)[0] == 0
-            wrong += [] if (stays, goes, again) == (True, True, True) else [f"{name} a list: stays {stays}, is replaced {goes}, and again {again}"]
+            wrong += (
+                []
+                if (stays, goes, again) == (True, True, True)
+                else [f"{name} a list: stays {stays}, is replaced {goes}, and again {again}"]
+            )
         return "; ".join(wrong) or None
 
 
 def both_ways(root, made):
     """Files below DESTDIR name only the prefix, ./install --from puts the same files there, and each of the two removes what the other put."""
     with tempfile.TemporaryDirectory(prefix="boxglue-ways-") as room:
-        ways = {"sh": lambda: placed(made, room, "--prefix", "/opt/a b", DESTDIR=f"{room}/sh"),
-                "from": lambda: run([f"{root}/install", "--from", only(made, "*-linux.tar.gz"), "--prefix", "/opt/a b"], room, DESTDIR=f"{room}/from")[::2]}
+        ways = {
+            "sh": lambda: placed(made, room, "--prefix", "/opt/a b", DESTDIR=f"{room}/sh"),
+            "from": lambda: run(
+                [f"{root}/install", "--from", only(made, "*-linux.tar.gz"), "--prefix", "/opt/a b"],
+                room,
+                DESTDIR=f"{room}/from",
+            )[::2],
+        }
         said = {name: call() for name, call in ways.items()}
         first, second = (files_below(f"{room}/{it}") for it in ways)
-        texts = [it for it in second if os.path.isfile(f"{room}/from/{it}") and room.encode() in content(f"{room}/from/{it}")]
-        if any(status for status, _ in said.values()) or first != second or len(first) < 50 or texts:
-            return f"{said}, other files {sorted(first ^ second)[:5]}, files that name DESTDIR {texts}"
-        gone = [run([f"{root}/install", "--uninstall", "--prefix", "/opt/a b"], room, DESTDIR=f"{room}/sh")[::2], placed(made, room, "--uninstall", "--prefix", "/opt/a b", DESTDIR=f"{room}/from")]
+        texts = [
+            it
+            for it in second
+            if os.path.isfile(f"{room}/from/{it}") and room.encode() in content(f"{room}/from/{it}")
+        ]
+        if (
+            any(status for status, _ in said.values())
+            or first != second
+            or len(first) < 50
+            or texts
+        ):
+            return (
+                f"{said}, other files {sorted(first ^ second)[:5]}, files that name DESTDIR {texts}"
+            )
+        gone = [
+            run(
+                [f"{root}/install", "--uninstall", "--prefix", "/opt/a b"],
+                room,
+                DESTDIR=f"{room}/sh",
+            )[::2],
+            placed(made, room, "--uninstall", "--prefix", "/opt/a b", DESTDIR=f"{room}/from"),
+        ]
         left = [files_below(f"{room}/{it}") for it in ways]
-        return None if [it for it, _ in gone] == [0, 0] and left == [{"opt", "opt/a b"}] * 2 else f"{gone}, and these are left: {[sorted(it)[:5] for it in left]}"
+        return (
+            None
+            if [it for it, _ in gone] == [0, 0] and left == [{"opt", "opt/a b"}] * 2
+            else f"{gone}, and these are left: {[sorted(it)[:5] for it in left]}"
+        )
 
 
 def script_wrong(root, _made):
     """What shellcheck finds in the installing script."""
-    return lacks("shellcheck") or (run(["shellcheck", f"{root}/tools/releases/install.sh"], root)[1][:300] or None)
+    return lacks("shellcheck") or (
+        run(["shellcheck", f"{root}/tools/releases/install.sh"], root)[1][:300] or None
+    )
 
 
 def refuses_changes(root, made):
@@ -286,26 +399,57 @@ def refuses_changes(root, made):
         write(f"{clone}/more", b"more\n")
         status, _, errors = run([f"{clone}/tools/release", "--unproved", f"{room}/out"], room)
         again = run([f"{clone}/tools/release", "--unproved", made], room)[0]
-        return None if (status, again) == (1, 2) and "?? more" in errors and not os.path.exists(f"{room}/out") else f"the statuses are {status} and {again}: {errors[-200:]!r}"
+        return (
+            None
+            if (status, again) == (1, 2)
+            and "?? more" in errors
+            and not os.path.exists(f"{room}/out")
+            else f"the statuses are {status} and {again}: {errors[-200:]!r}"
+        )
 
 
 def cases(programs, root):
     """The files of a release, what fresh systems make of them, and what is refused."""
     given = [*programs[:2], None, None][:2]
-    page, doc, local = PAGE.replace("DOC", "/usr/local/share/doc/boxglue"), "/usr/share/doc/boxglue", "export PKG_CONFIG_PATH=/usr/local/lib/pkgconfig\n"
+    page, doc, local = (
+        PAGE.replace("DOC", "/usr/local/share/doc/boxglue"),
+        "/usr/share/doc/boxglue",
+        "export PKG_CONFIG_PATH=/usr/local/lib/pkgconfig\n",
+    )
     uninstalled = "/tmp/boxglue-*-linux/install.sh --uninstall --prefix /usr/local > /tmp/said\n"
     in_c = C.replace("LIB ", "/usr/local/lib ")
-    packages = PAGE.replace("DOC", doc) + C.replace("LIB ", "/none ").replace("METRICS", f"{doc}/examples/plain.tfm")
+    packages = PAGE.replace("DOC", doc) + C.replace("LIB ", "/none ").replace(
+        "METRICS", f"{doc}/examples/plain.tfm"
+    )
     python = f"python3 /given/page.py {doc}/examples/plain.tfm page.dvi | tail -n 1\n"
     yield "the same bytes twice", partial(twice, root, *given)
     over_release = {
-        "names and sums": names_wrong, "bill of materials": bill_wrong, "lintian": lintian_wrong, "shellcheck": script_wrong,
-        "tarball in an older system": partial(in_system, OLD, removed(TARBALL, page, uninstalled), END),
-        "C by pkg-config": partial(in_system, TOOLS, f"{TARBALL}{local}{in_c}", ENDS), "C by CMake": partial(in_system, TOOLS, f"{TARBALL}{CMAKE}", ENDS),
-        "Python by pip": partial(in_system, TOOLS, f"{TARBALL}{PYTHON}", ENDS), "Rust": partial(in_system, TOOLS, f"{TARBALL}{RUST}", ENDS),
+        "names and sums": names_wrong,
+        "bill of materials": bill_wrong,
+        "lintian": lintian_wrong,
+        "shellcheck": script_wrong,
+        "tarball in an older system": partial(
+            in_system, OLD, removed(TARBALL, page, uninstalled), END
+        ),
+        "C by pkg-config": partial(in_system, TOOLS, f"{TARBALL}{local}{in_c}", ENDS),
+        "C by CMake": partial(in_system, TOOLS, f"{TARBALL}{CMAKE}", ENDS),
+        "Python by pip": partial(in_system, TOOLS, f"{TARBALL}{PYTHON}", ENDS),
+        "Rust": partial(in_system, TOOLS, f"{TARBALL}{RUST}", ENDS),
         "Rust by .crate files": partial(in_system, TOOLS, f"{TARBALL}{PACKED_RUST}", ENDS),
-        "packages": partial(in_system, TOOLS, removed(PACKAGED, packages + python, "dpkg --purge python3-boxglue libboxglue-dev libboxglue1 boxglue > /tmp/said 2>&1\n"), END + 2 * ENDS),
-        "damaged": damaged, "what is proved stays": kept, "DESTDIR, and ./install --from": both_ways, "changed clones": refuses_changes,
+        "packages": partial(
+            in_system,
+            TOOLS,
+            removed(
+                PACKAGED,
+                packages + python,
+                "dpkg --purge python3-boxglue libboxglue-dev libboxglue1 boxglue > /tmp/said 2>&1\n",
+            ),
+            END + 2 * ENDS,
+        ),
+        "damaged": damaged,
+        "what is proved stays": kept,
+        "DESTDIR, and ./install --from": both_ways,
+        "changed clones": refuses_changes,
     }
     for name, call in over_release.items():
         yield name, partial(over, call, root, *given)

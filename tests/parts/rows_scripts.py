@@ -21,13 +21,18 @@ def run_built(program, given):
         ran = finished([program], input=given, env={})
     except (OSError, subprocess.TimeoutExpired) as error:
         return b"", f"{error}"
-    return ran.stdout, f"the status is {ran.returncode}: {last_lines(ran.stderr)}" if ran.returncode else None
+    return (
+        ran.stdout,
+        f"the status is {ran.returncode}: {last_lines(ran.stderr)}" if ran.returncode else None,
+    )
 
 
 def run_tried(root, given):
     """Runs the program by `rt try`, and returns the same."""
     # The interpreter of `rt try` cannot run it. Compiled, it takes more than the usual 60 seconds on a busy machine.
-    status, output, errors = rt_try(root, "rows_scripts", ["--steps", "1", "--seconds", str(LIMIT)], given)
+    status, output, errors = rt_try(
+        root, "rows_scripts", ["--steps", "1", "--seconds", str(LIMIT)], given
+    )
     return output, f"rt try: {last_lines(errors)}" if status else None
 
 
@@ -47,7 +52,9 @@ def cases(programs, root):
 
     @functools.lru_cache(None)
     def runs():
-        found = {os.path.basename(it): run_built(it, given) for it in programs} or {"rows_scripts": run_tried(root, given)}
+        found = {os.path.basename(it): run_built(it, given) for it in programs} or {
+            "rows_scripts": run_tried(root, given)
+        }
         return {build: (blocks(output), why) for build, (output, why) in found.items()}
 
     def outcome(name):

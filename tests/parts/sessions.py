@@ -49,13 +49,15 @@ MIB = 1 << 20
 def page_file(root):
     """The bytes of the file: those of the row."""
     rows = blocks(read(f"{root}/crates/rows_scripts", "stdout"))[b"one_rule_page"].splitlines()
-    return bytes.fromhex(b"".join(it for it in rows if re.fullmatch(rb"[0-9a-f]{1,32}", it)).decode())
+    return bytes.fromhex(
+        b"".join(it for it in rows if re.fullmatch(rb"[0-9a-f]{1,32}", it)).decode()
+    )
 
 
 def before_post(data):
     """The pages of a file: what comes before its postamble, whose place it has near its end."""
     place = data.rstrip(b"\xdf")[-5:-1]
-    return data[:int.from_bytes(place, "big")]
+    return data[: int.from_bytes(place, "big")]
 
 
 class Session:
@@ -63,8 +65,15 @@ class Session:
 
     def __init__(self, program, words=(), **streams):
         self.room = tempfile.TemporaryDirectory(prefix="boxglue-session-")
-        given = {"stdin": subprocess.PIPE, "stdout": subprocess.PIPE, "stderr": subprocess.PIPE, **streams}
-        self.started = subprocess.Popen([program, "session", OUT, *words], cwd=self.room.name, env={}, bufsize=0, **given)
+        given = {
+            "stdin": subprocess.PIPE,
+            "stdout": subprocess.PIPE,
+            "stderr": subprocess.PIPE,
+            **streams,
+        }
+        self.started = subprocess.Popen(
+            [program, "session", OUT, *words], cwd=self.room.name, env={}, bufsize=0, **given
+        )
 
     def __enter__(self):
         return self
@@ -173,10 +182,14 @@ def last_line(file, program):
 def long_lines(file, program):
     """Lines of a mebibyte: a comment, a bad line, and a command between spaces."""
     with Session(program) as it:
-        it.say(b"%" * MIB + b"\n" + b"x" * MIB + b"\n" + b" " * MIB + b"void 0" + b" " * MIB + b"\n")
+        it.say(
+            b"%" * MIB + b"\n" + b"x" * MIB + b"\n" + b" " * MIB + b"void 0" + b" " * MIB + b"\n"
+        )
         it.hear(b"refused 2 BadScript 2 Word\n3: ok\n")
         it.say(PAGE)
-        it.ends(b"4: ok\n5: ok\n6: packed 1.0pt 1.0pt 0.0pt badness 0\n7: shipped 1\n" + END, 1, file)
+        it.ends(
+            b"4: ok\n5: ok\n6: packed 1.0pt 1.0pt 0.0pt badness 0\n7: shipped 1\n" + END, 1, file
+        )
 
 
 def no_lines(_, program):
@@ -193,7 +206,12 @@ def many_answers(_, program):
     with Session(program) as it:
         it.say(b"void 0\n" * count)
         time.sleep(MOMENT)
-        it.ends(b"".join(b"%d: ok\n" % number for number in range(1, count + 1)) + b"end: pages 0 bytes 0\n", 0, b"")
+        it.ends(
+            b"".join(b"%d: ok\n" % number for number in range(1, count + 1))
+            + b"end: pages 0 bytes 0\n",
+            0,
+            b"",
+        )
 
 
 def client_that_closes(file, program):
@@ -231,7 +249,9 @@ def input_that_never_waits(file, program):
 def input_that_fails(file, program):
     """A connection that is reset after the lines were answered: that is no end of the job, whose file has its page and no more. A command that was cut off before its
     line feed is not run, even if it would be whole."""
-    with socket.create_server(("127.0.0.1", 0)) as server, socket.create_connection(server.getsockname()) as ours:
+    with socket.create_server(("127.0.0.1", 0)) as server, socket.create_connection(
+        server.getsockname()
+    ) as ours:
         theirs, _ = server.accept()
         with theirs, Session(program, stdin=theirs) as it:
             theirs.close()
@@ -300,9 +320,13 @@ def like_typeset(inputs, program):
         if typeset[1].startswith(b"refused 2 "):
             refusals = re.findall(rb"^refused 2 .*\n", session[1], flags=re.M)
             if refusals[:1] != [typeset[1]] or session[0] != 1:
-                raise Wrong(f"{given.name}: the refusals are {refusals[:3]}, and typeset says {typeset[1]}")
+                raise Wrong(
+                    f"{given.name}: the refusals are {refusals[:3]}, and typeset says {typeset[1]}"
+                )
         elif typeset != session:
-            raise Wrong(f"{given.name}: {first_difference('the answers', session[1], typeset[1]) or 'the status, the errors or the file is another'}")
+            raise Wrong(
+                f"{given.name}: {first_difference('the answers', session[1], typeset[1]) or 'the status, the errors or the file is another'}"
+            )
 
 
 def bad_lines(each, program):
@@ -314,7 +338,12 @@ def bad_lines(each, program):
             it.say(b"".join(line + b"\n" for line, _ in lines))
             output, _ = it.started.communicate(timeout=LIMIT)
         wanted = {number: cause for number, (_, cause) in enumerate(lines, 1) if cause}
-        found = {int(number): cause for number, cause in re.findall(rb"^refused 2 BadScript (\d+) (\w+)$", output, flags=re.M)}
+        found = {
+            int(number): cause
+            for number, cause in re.findall(
+                rb"^refused 2 BadScript (\d+) (\w+)$", output, flags=re.M
+            )
+        }
         if found != wanted or not output.splitlines()[-1].startswith(b"end: "):
             raise Wrong(f"{name}: the refusals are {found}, and not {wanted}")
 
@@ -345,6 +374,12 @@ def cases(programs, root):
     file = page_file(root)
     for name, call in CASES.items():
         yield name, partial(on_each, programs, partial(call, file))
-    yield "like typeset: the scripts of examples/", partial(on_each, programs, partial(like_typeset, [*example_inputs(root)]))
-    yield "like typeset: the scripts of rows_scripts", partial(on_each, programs, partial(like_typeset, [*all_case_inputs(root)]))
-    yield "bad lines: those of rows_scripts", partial(on_each, programs, partial(bad_lines, [*answers_to_each(root)]))
+    yield "like typeset: the scripts of examples/", partial(
+        on_each, programs, partial(like_typeset, [*example_inputs(root)])
+    )
+    yield "like typeset: the scripts of rows_scripts", partial(
+        on_each, programs, partial(like_typeset, [*all_case_inputs(root)])
+    )
+    yield "bad lines: those of rows_scripts", partial(
+        on_each, programs, partial(bad_lines, [*answers_to_each(root)])
+    )

@@ -27,7 +27,11 @@ def runs():
 
 def ended(program, run, which, folder):
     """A run in which writes are shortened. From a file its input comes in large pieces."""
-    env = {"LANG": "C.UTF-8", "LD_PRELOAD": preloads.built("shorten_writes"), "SHORTEN_WRITES": which}
+    env = {
+        "LANG": "C.UTF-8",
+        "LD_PRELOAD": preloads.built("shorten_writes"),
+        "SHORTEN_WRITES": which,
+    }
     with tempfile.TemporaryFile() as given:
         given.write(run.stdin)
         given.seek(0)
@@ -44,10 +48,17 @@ def wrong_in(task, which, program):
         made = read(folder, MADE, b"")
     if ran.returncode != run.status or not ran.stderr.strip().isdigit() or not int(ran.stderr):
         return f"the status is {ran.returncode}, and standard error {ran.stderr[:200]!r} is no number of shortened writes"
-    return first_difference("standard output", ran.stdout, b"".join(run.stdout)) or first_difference("the file", made, file)
+    return first_difference(
+        "standard output", ran.stdout, b"".join(run.stdout)
+    ) or first_difference("the file", made, file)
 
 
 def cases(programs, root):
     """The tasks that make a file, with their writes to it shortened; and all tasks, with those to standard output."""
-    words = {f"the file of {it}": (it, TO_FILES) for it in ("typeset", "session")} | {f"the output of {it}": (it, TO_OUTPUT) for it in runs()}
-    return [(name, functools.partial(on_each, programs, functools.partial(wrong_in, *it))) for name, it in words.items()]
+    words = {f"the file of {it}": (it, TO_FILES) for it in ("typeset", "session")} | {
+        f"the output of {it}": (it, TO_OUTPUT) for it in runs()
+    }
+    return [
+        (name, functools.partial(on_each, programs, functools.partial(wrong_in, *it)))
+        for name, it in words.items()
+    ]

@@ -20,9 +20,15 @@ PAIR = "a=a.tfm"
 # Command lines with a message on standard error, and its whole text or its beginning.
 MESSAGES = {
     "a file that cannot be read": (["list", "absent"], b"boxglue: cannot read absent\n"),
-    "a file that cannot be written": (["typeset", "absent/page.dvi"], b"boxglue: cannot write absent/page.dvi\n"),
+    "a file that cannot be written": (
+        ["typeset", "absent/page.dvi"],
+        b"boxglue: cannot write absent/page.dvi\n",
+    ),
     "a word that is no pair": (["list", "page.dvi", "a"], b"boxglue: not NAME=TFM: a\n"),
-    "a long word that is no pair": (["list", "page.dvi", "a" * 100_000], b"boxglue: not NAME=TFM: " + b"a" * 100_000 + b"\n"),
+    "a long word that is no pair": (
+        ["list", "page.dvi", "a" * 100_000],
+        b"boxglue: not NAME=TFM: " + b"a" * 100_000 + b"\n",
+    ),
     "a name given twice": (["list", "page.dvi", PAIR, PAIR], b"boxglue: name given twice: a\n"),
     "help": (["--help"], b"typesets scripts of boxes and glue into DVI files"),
     "a word that is no text": ([b"\xff"], NO_TEXT),
@@ -35,7 +41,10 @@ def started_by_no_text(program):
     with tempfile.TemporaryDirectory(prefix="boxglue-streams-") as room:
         path = room.encode() + b"/\xff\xfe boxglue"
         shutil.copy(program, path)
-        for words, wanted in (([], (0, EMPTY, b"")), (["list", "absent"], (1, b"", MESSAGES["a file that cannot be read"][1]))):
+        for words, wanted in (
+            ([], (0, EMPTY, b"")),
+            (["list", "absent"], (1, b"", MESSAGES["a file that cannot be read"][1])),
+        ):
             ran = finished([path, *words], cwd=room, env={})
             if (ran.returncode, ran.stdout, ran.stderr) != wanted:
                 return f"the words {words} give {ran.returncode}, {ran.stdout[:99]!r}, {ran.stderr[:99]!r}"
@@ -52,7 +61,15 @@ def writes_of(program, words, room):
         ours.settimeout(LIMIT)
         with theirs:
             theirs.setsockopt(socket.SOL_SOCKET, socket.SO_SNDBUF, 1 << 20)
-            ran = subprocess.run([program, *words], cwd=room, input=PAGE, stdout=subprocess.PIPE, stderr=theirs, env={}, timeout=LIMIT)
+            ran = subprocess.run(
+                [program, *words],
+                cwd=room,
+                input=PAGE,
+                stdout=subprocess.PIPE,
+                stderr=theirs,
+                env={},
+                timeout=LIMIT,
+            )
         writes = []
         while piece := ours.recv(1 << 20):
             writes.append(piece)
@@ -82,16 +99,24 @@ def output_that_does_not_wait(program):
     with tempfile.TemporaryFile() as given:
         given.write(script)
         given.seek(0)
-        with subprocess.Popen([program], stdin=given, stdout=writing, stderr=subprocess.PIPE, env={}) as started:
+        with subprocess.Popen(
+            [program], stdin=given, stdout=writing, stderr=subprocess.PIPE, env={}
+        ) as started:
             os.close(writing)
             time.sleep(0.5)
             found = b""
-            while select.select([reading], [], [], LIMIT)[0] and (piece := os.read(reading, 20_000)):
+            while select.select([reading], [], [], LIMIT)[0] and (
+                piece := os.read(reading, 20_000)
+            ):
                 found += piece
                 time.sleep(0.001)
             os.close(reading)
             errors = started.communicate(timeout=LIMIT)[1]
-    return None if (started.returncode, errors) == (0, b"") and found == answers else f"the status is {started.returncode}, and {len(found)} of {len(answers)} bytes came"
+    return (
+        None
+        if (started.returncode, errors) == (0, b"") and found == answers
+        else f"the status is {started.returncode}, and {len(found)} of {len(answers)} bytes came"
+    )
 
 
 def cases(programs, root):

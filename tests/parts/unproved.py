@@ -20,8 +20,14 @@ SYMBOL = re.compile(r"^[0-9a-f]+ [TRDB] (\w+)$", re.M)
 def program_wrong(root):
     """What is wrong with the line that the program prints for its version."""
     ran = finished([build_unproved(root, "program"), "--version"], text=True)
-    line = re.search(r'VERSION_LINE: &str = "(boxglue \S+) ', read(f"{root}/crates/boxglue_words/src/task.rt"))[1]
-    return None if (ran.returncode, ran.stdout) == (0, f"{line} {SAYS}\n") else f"the status is {ran.returncode}, and it prints {ran.stdout!r}"
+    line = re.search(
+        r'VERSION_LINE: &str = "(boxglue \S+) ', read(f"{root}/crates/boxglue_words/src/task.rt")
+    )[1]
+    return (
+        None
+        if (ran.returncode, ran.stdout) == (0, f"{line} {SAYS}\n")
+        else f"the status is {ran.returncode}, and it prints {ran.stdout!r}"
+    )
 
 
 def library_wrong(root):
@@ -30,7 +36,11 @@ def library_wrong(root):
     need("nm")
     ran = finished(["nm", "--defined-only", archive], text=True, check=True)
     found, wanted = {*SYMBOL.findall(ran.stdout)}, {*calls(root), "boxglue_unproved"}
-    return None if found == wanted else f"these names are in the library or the header alone: {sorted(found ^ wanted)}"
+    return (
+        None
+        if found == wanted
+        else f"these names are in the library or the header alone: {sorted(found ^ wanted)}"
+    )
 
 
 def cases(_programs, root):

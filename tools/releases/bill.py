@@ -20,17 +20,33 @@ OF_C = ("c/liblibc_c.a", "c/libos_c.a")
 
 def package(name: str, version: str, comment: str, purpose: str = "LIBRARY") -> dict[str, object]:
     """A package of the bill. No licence is known here: boxglue has none, and each library of the kit has its own."""
-    return {"SPDXID": f"SPDXRef-{re.sub(r'[^A-Za-z0-9.]', '-', name)}", "name": name, "versionInfo": version, "downloadLocation": "NOASSERTION", "filesAnalyzed": False,
-            "licenseConcluded": "NOASSERTION", "licenseDeclared": "NOASSERTION", "copyrightText": "NOASSERTION", "primaryPackagePurpose": purpose, "comment": comment}
+    return {
+        "SPDXID": f"SPDXRef-{re.sub(r'[^A-Za-z0-9.]', '-', name)}",
+        "name": name,
+        "versionInfo": version,
+        "downloadLocation": "NOASSERTION",
+        "filesAnalyzed": False,
+        "licenseConcluded": "NOASSERTION",
+        "licenseDeclared": "NOASSERTION",
+        "copyrightText": "NOASSERTION",
+        "primaryPackagePurpose": purpose,
+        "comment": comment,
+    }
 
 
 def library_of_kit(name: str, kit_name: str) -> dict[str, object]:
     """A library of the kit: its version is the kit's, behind that of the Rust crate that it is like."""
     path = f"{kit()}/rattle/{name}/README.md"
     like = LIKE.search(read(path)) if os.path.exists(path) else None
-    comment = f"Rattle's library {name}" + (f", after the Rust crate {like[1]} {like[2]}" if like else "")
+    comment = f"Rattle's library {name}" + (
+        f", after the Rust crate {like[1]} {like[2]}" if like else ""
+    )
     version = f"{like[2]}+{kit_name}" if like else kit_name
-    return package(f"rattle-{name}", version, f"{comment}. SHA-256 of its record rlibs/{name}.rlib/format: {sum_of(f'{kit()}/rlibs/{name}.rlib/format')}")
+    return package(
+        f"rattle-{name}",
+        version,
+        f"{comment}. SHA-256 of its record rlibs/{name}.rlib/format: {sum_of(f'{kit()}/rlibs/{name}.rlib/format')}",
+    )
 
 
 def packages_of(root: str, edition: Edition, glibc: str) -> list[dict[str, object]]:
@@ -38,26 +54,78 @@ def packages_of(root: str, edition: Edition, glibc: str) -> list[dict[str, objec
     kit_name, _, logic = answer_of(["rt", "version"], root).partition(" ")
     found = libraries(root)
     ours = crates_below(found, NAMES)
-    of_kit = sorted(kit_uses([*(it for name in ours for it in found[name] if it not in found), "std"]))
+    of_kit = sorted(
+        kit_uses([*(it for name in ours for it in found[name] if it not in found), "std"])
+    )
     sums = ", ".join(f"{it} {sum_of(f'{kit()}/{it}')}" for it in OF_C)
     proofs = "every function is proved" if edition.is_proved else "UNPROVED, with run-time checks"
-    return [package("boxglue", edition.python, f"Commit {edition.commit}; {proofs}. Crates: {' '.join(ours)}", "APPLICATION"),
-            package(kit_name, kit_name, f"Compiler and prover: {logic}. {' '.join(read(f'{kit()}/WHAT').split())}. SHA-256 of its parts in the program and the library: {sums}", "OTHER"),
-            package("glibc", f">= {glibc}", "The C library of the system, which is loaded and not part of the files.", "OPERATING-SYSTEM"),
-            *(library_of_kit(it, kit_name) for it in of_kit)]
+    return [
+        package(
+            "boxglue",
+            edition.python,
+            f"Commit {edition.commit}; {proofs}. Crates: {' '.join(ours)}",
+            "APPLICATION",
+        ),
+        package(
+            kit_name,
+            kit_name,
+            f"Compiler and prover: {logic}. {' '.join(read(f'{kit()}/WHAT').split())}. SHA-256 of its parts in the program and the library: {sums}",
+            "OTHER",
+        ),
+        package(
+            "glibc",
+            f">= {glibc}",
+            "The C library of the system, which is loaded and not part of the files.",
+            "OPERATING-SYSTEM",
+        ),
+        *(library_of_kit(it, kit_name) for it in of_kit),
+    ]
 
 
 def bill(root: str, folder: str, edition: Edition, glibc: str) -> str:
     """The bill of the files in a folder. Its name depends on these alone."""
     packages = packages_of(root, edition, glibc)
-    files = [{"SPDXID": f"SPDXRef-File-{number}", "fileName": f"./{name}", "checksums": [{"algorithm": "SHA256", "checksumValue": sum_of(f"{folder}/{name}")}],
-              "licenseConcluded": "NOASSERTION", "copyrightText": "NOASSERTION"} for number, name in enumerate(files_below(folder), 1)]
+    files = [
+        {
+            "SPDXID": f"SPDXRef-File-{number}",
+            "fileName": f"./{name}",
+            "checksums": [{"algorithm": "SHA256", "checksumValue": sum_of(f"{folder}/{name}")}],
+            "licenseConcluded": "NOASSERTION",
+            "copyrightText": "NOASSERTION",
+        }
+        for number, name in enumerate(files_below(folder), 1)
+    ]
     ids = [str(it["SPDXID"]) for it in packages]
-    related = [("SPDXRef-DOCUMENT", "DESCRIBES", ids[0]), (ids[1], "BUILD_TOOL_OF", ids[0]), (ids[0], "DYNAMIC_LINK", ids[2]), *((ids[0], "STATIC_LINK", it) for it in ids[3:]),
-               *((str(it["SPDXID"]), "GENERATED_FROM", ids[0]) for it in files)]
-    name = uuid.UUID(bytes=hashlib.sha256(json.dumps([packages, files]).encode()).digest()[:16], version=5)
-    return json.dumps({
-        "spdxVersion": "SPDX-2.3", "dataLicense": "CC0-1.0", "SPDXID": "SPDXRef-DOCUMENT", "name": edition.top, "documentNamespace": f"urn:uuid:{name}",
-        "creationInfo": {"created": time.strftime("%Y-%m-%dT%H:%M:%SZ", time.gmtime(edition.seconds)), "creators": ["Tool: boxglue-tools-release"]},
-        "packages": packages, "files": files,
-        "relationships": [{"spdxElementId": one, "relationshipType": kind, "relatedSpdxElement": other} for one, kind, other in related]}, indent=1) + "\n"
+    related = [
+        ("SPDXRef-DOCUMENT", "DESCRIBES", ids[0]),
+        (ids[1], "BUILD_TOOL_OF", ids[0]),
+        (ids[0], "DYNAMIC_LINK", ids[2]),
+        *((ids[0], "STATIC_LINK", it) for it in ids[3:]),
+        *((str(it["SPDXID"]), "GENERATED_FROM", ids[0]) for it in files),
+    ]
+    name = uuid.UUID(
+        bytes=hashlib.sha256(json.dumps([packages, files]).encode()).digest()[:16], version=5
+    )
+    return (
+        json.dumps(
+            {
+                "spdxVersion": "SPDX-2.3",
+                "dataLicense": "CC0-1.0",
+                "SPDXID": "SPDXRef-DOCUMENT",
+                "name": edition.top,
+                "documentNamespace": f"urn:uuid:{name}",
+                "creationInfo": {
+                    "created": time.strftime("%Y-%m-%dT%H:%M:%SZ", time.gmtime(edition.seconds)),
+                    "creators": ["Tool: boxglue-tools-release"],
+                },
+                "packages": packages,
+                "files": files,
+                "relationships": [
+                    {"spdxElementId": one, "relationshipType": kind, "relatedSpdxElement": other}
+                    for one, kind, other in related
+                ],
+            },
+            indent=1,
+        )
+        + "\n"
+    )

@@ -14,16 +14,21 @@ from tools.unproved import SAYS
 NAMES = ["boxglue", "boxglue_c"]
 ARCHIVE = "crates/boxglue_c/out/libboxglue_c.a"
 # What `rt ci` says of a crate that it has proved before, and at its end.
-KEPT, END = re.compile(r"(?m)^rt: (\w+) is kept: "), re.compile(r"(?m)^rt: ok; .*\bdone in this run: (\d+) of the (\d+) proofs\b")
+KEPT, END = re.compile(r"(?m)^rt: (\w+) is kept: "), re.compile(
+    r"(?m)^rt: ok; .*\bdone in this run: (\d+) of the (\d+) proofs\b"
+)
 # A crate that it takes longer for, in seconds, is one that it proves.
 LONGEST = 120
 # What makes no difference to a proof.
-NOT_PROVED = shutil.ignore_patterns("out", "must-fail", "wrong-bodies", "refused-by-tests", "needed-premises", "*.md")
+NOT_PROVED = shutil.ignore_patterns(
+    "out", "must-fail", "wrong-bodies", "refused-by-tests", "needed-premises", "*.md"
+)
 
 
 @dataclass(frozen=True)
 class Build:
     """A program and an archive, and what is to be said of their proofs."""
+
     program: str
     archive: str
     proofs: list[str]
@@ -41,12 +46,25 @@ def unproved(root: str, room: str, program: str | None, archive: str | None) -> 
     for name in (it for it, given in paths.items() if not given):
         paths[name] = f"{room}/{name}"
         say(f"{name}, without proofs: a minute or two where a processor is free")
-        done([sys.executable, f"{root}/tools/unproved.py", *["--library"] * (name == "boxglue_c"), f"{room}/{name}"], root, name, "built", f"{name} is not built")
+        done(
+            [
+                sys.executable,
+                f"{root}/tools/unproved.py",
+                *["--library"] * (name == "boxglue_c"),
+                f"{room}/{name}",
+            ],
+            root,
+            name,
+            "built",
+            f"{name} is not built",
+        )
     made = [os.path.abspath(it) for it in paths.values() if it]
     others = [it for it in made if not says_unproved(it)]
     if others:
         raise Failed(f"{others[0]} was not built without proofs")
-    return Build(made[0], made[1], ["Nothing is proved: run-time checks are in place of the proofs."])
+    return Build(
+        made[0], made[1], ["Nothing is proved: run-time checks are in place of the proofs."]
+    )
 
 
 def make_tree(root: str, tree: str) -> list[str]:
@@ -88,7 +106,9 @@ class Question:
             return end[0].removeprefix("rt: ")
         left = [it for it in self.names if it not in self.kept]
         why = f"these crates are left to prove: {' '.join(left)}" if left else said[-500:]
-        raise Failed(f"`rt` does not find all proved; run .ci/run first, with a kit that remembers proofs: {why}")
+        raise Failed(
+            f"`rt` does not find all proved; run .ci/run first, with a kit that remembers proofs: {why}"
+        )
 
 
 def proved(root: str, room: str) -> Build:
@@ -102,8 +122,18 @@ def proved(root: str, room: str) -> Build:
     for made in (it for it in (ARCHIVE, f"{ARCHIVE}.stamp") if os.path.exists(f"{root}/{it}")):
         os.makedirs(os.path.dirname(f"{tree}/{made}"), exist_ok=True)
         shutil.copy(f"{root}/{made}", f"{tree}/{made}")
-    done([sys.executable, f"{tree}/.ci/archive"], tree, "the archive for C", "built", "the archive is not built")
-    build = Build(f"{tree}/crates/boxglue/out/boxglue", f"{tree}/{ARCHIVE}", [f"`rt ci` said: {end}", f"Proved crates: {' '.join(names)}"])
+    done(
+        [sys.executable, f"{tree}/.ci/archive"],
+        tree,
+        "the archive for C",
+        "built",
+        "the archive is not built",
+    )
+    build = Build(
+        f"{tree}/crates/boxglue/out/boxglue",
+        f"{tree}/{ARCHIVE}",
+        [f"`rt ci` said: {end}", f"Proved crates: {' '.join(names)}"],
+    )
     if says_unproved(build.program) or says_unproved(build.archive):
         raise Failed("what `rt ci` left was built without proofs")
     return build

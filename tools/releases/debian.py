@@ -25,6 +25,7 @@ COPYRIGHT = f"Format: https://www.debian.org/doc/packaging-manuals/copyright-for
 @dataclass(frozen=True)
 class Package:
     """A package: what it is, where each of its files is below the prefix of `./install`, its links, and its scripts."""
+
     name: str
     section: str
     depends: str
@@ -42,39 +43,102 @@ def with_glibc(path: str) -> str:
 
 def packages_of(root: str, top: str, kinds: dict[str, str], edition: Edition) -> list[Package]:
     """The packages but for that of Python, of what `./install` puts into Debian's folders."""
-    shared, same = f"{LIBRARIES}/libboxglue.so.{edition.number}", "Architecture: amd64\nMulti-Arch: same\n"
-    texts = {it: f"usr/{it}" for it in kinds if it.startswith(("bin/", "share/man/man1/", "share/bash-completion/", "share/fish/"))}
-    examples = {os.path.relpath(f"{root}/examples/{it}", top): f"usr/share/doc/boxglue/examples/{it}" for it in ("first_page.box", "plain.tfm")}
-    others = {it: f"usr/{it}" for it in kinds if it.startswith(("include/", "share/man/man3/")) or it.endswith((".a", ".pc", ".cmake")) and not it.startswith("share/")}
+    shared, same = (
+        f"{LIBRARIES}/libboxglue.so.{edition.number}",
+        "Architecture: amd64\nMulti-Arch: same\n",
+    )
+    texts = {
+        it: f"usr/{it}"
+        for it in kinds
+        if it.startswith(("bin/", "share/man/man1/", "share/bash-completion/", "share/fish/"))
+    }
+    examples = {
+        os.path.relpath(f"{root}/examples/{it}", top): f"usr/share/doc/boxglue/examples/{it}"
+        for it in ("first_page.box", "plain.tfm")
+    }
+    others = {
+        it: f"usr/{it}"
+        for it in kinds
+        if it.startswith(("include/", "share/man/man3/"))
+        or it.endswith((".a", ".pc", ".cmake"))
+        and not it.startswith("share/")
+    }
     return [
-        Package("boxglue", "text", with_glibc(f"{top}/bin/boxglue"), "It runs scripts of boxes, glue and text, writes DVI files, and reads them.",
-                {**texts, "share/zsh/site-functions/_boxglue": "usr/share/zsh/vendor-completions/_boxglue", **examples}),
-        Package("libboxglue1", "libs", with_glibc(f"{top}/{shared}"), "This package has the shared library.",
-                {shared: f"usr/{shared}"}, {f"usr/{LIBRARIES}/libboxglue.so.1": os.path.basename(shared)},
-                {"shlibs": f"libboxglue 1 libboxglue1 (>= {edition.debian})\n", "triggers": "activate-noawait ldconfig\n"}, same),
-        Package("libboxglue-dev", "libdevel", f"libboxglue1 (= {edition.debian})", "This package has the header, the archive, and files for pkg-config and CMake.",
-                others, {f"usr/{LIBRARIES}/libboxglue.so": "libboxglue.so.1"}, {}, same)]
+        Package(
+            "boxglue",
+            "text",
+            with_glibc(f"{top}/bin/boxglue"),
+            "It runs scripts of boxes, glue and text, writes DVI files, and reads them.",
+            {
+                **texts,
+                "share/zsh/site-functions/_boxglue": "usr/share/zsh/vendor-completions/_boxglue",
+                **examples,
+            },
+        ),
+        Package(
+            "libboxglue1",
+            "libs",
+            with_glibc(f"{top}/{shared}"),
+            "This package has the shared library.",
+            {shared: f"usr/{shared}"},
+            {f"usr/{LIBRARIES}/libboxglue.so.1": os.path.basename(shared)},
+            {
+                "shlibs": f"libboxglue 1 libboxglue1 (>= {edition.debian})\n",
+                "triggers": "activate-noawait ldconfig\n",
+            },
+            same,
+        ),
+        Package(
+            "libboxglue-dev",
+            "libdevel",
+            f"libboxglue1 (= {edition.debian})",
+            "This package has the header, the archive, and files for pkg-config and CMake.",
+            others,
+            {f"usr/{LIBRARIES}/libboxglue.so": "libboxglue.so.1"},
+            {},
+            same,
+        ),
+    ]
 
 
 def python_package(top: str, room: str, edition: Edition) -> Package:
     """The package of Python: the wheel's files without its library, since the system has one."""
-    wheel, = (it for it in files_below(f"{top}/{WHEELS}") if it.endswith(".whl"))
+    (wheel,) = (it for it in files_below(f"{top}/{WHEELS}") if it.endswith(".whl"))
     with zipfile.ZipFile(f"{top}/{WHEELS}/{wheel}") as it:
         names = [name for name in it.namelist() if not name.endswith((".so", "/RECORD"))]
         it.extractall(f"{room}/wheel", names)
     files = {os.path.relpath(f"{room}/wheel/{name}", top): f"{PACKAGES}/{name}" for name in names}
-    scripts = {"postinst": "#!/bin/sh\nset -e\nif command -v py3compile > /dev/null 2>&1; then\n  py3compile -p python3-boxglue\nfi\n",
-               "prerm": "#!/bin/sh\nset -e\nif command -v py3clean > /dev/null 2>&1; then\n  py3clean -p python3-boxglue\nfi\n"}
+    scripts = {
+        "postinst": "#!/bin/sh\nset -e\nif command -v py3compile > /dev/null 2>&1; then\n  py3compile -p python3-boxglue\nfi\n",
+        "prerm": "#!/bin/sh\nset -e\nif command -v py3clean > /dev/null 2>&1; then\n  py3clean -p python3-boxglue\nfi\n",
+    }
     about = "This package calls the library from Python."
-    return Package("python3-boxglue", "python", f"python3 (>= 3.10), libboxglue1 (>= {edition.debian})", about, files, {}, scripts, "Architecture: all\n")
+    return Package(
+        "python3-boxglue",
+        "python",
+        f"python3 (>= 3.10), libboxglue1 (>= {edition.debian})",
+        about,
+        files,
+        {},
+        scripts,
+        "Architecture: all\n",
+    )
 
 
 def control(package: Package, edition: Edition, size: int) -> str:
     """The text of DEBIAN/control."""
-    proofs = "" if edition.is_proved else " .\n It is UNPROVED: run-time checks are in place of the proofs.\n"
-    kind = {"libs": " - library", "libdevel": " - for development", "python": " - Python"}.get(package.section, "")
-    return (f"Package: {package.name}\nSource: boxglue\nVersion: {edition.debian}\nMaintainer: {MAINTAINER}\n{package.fields}Section: {package.section}\nPriority: optional\n"
-            f"Installed-Size: {size}\nDepends: {package.depends}\nDescription: {SUMMARY}{kind}\n {package.about}\n{proofs}")
+    proofs = (
+        ""
+        if edition.is_proved
+        else " .\n It is UNPROVED: run-time checks are in place of the proofs.\n"
+    )
+    kind = {"libs": " - library", "libdevel": " - for development", "python": " - Python"}.get(
+        package.section, ""
+    )
+    return (
+        f"Package: {package.name}\nSource: boxglue\nVersion: {edition.debian}\nMaintainer: {MAINTAINER}\n{package.fields}Section: {package.section}\nPriority: optional\n"
+        f"Installed-Size: {size}\nDepends: {package.depends}\nDescription: {SUMMARY}{kind}\n {package.about}\n{proofs}"
+    )
 
 
 def put(path: str, data: bytes, mode: int) -> None:
@@ -87,7 +151,13 @@ def put(path: str, data: bytes, mode: int) -> None:
 
 def stripped(path: str, *words: str) -> None:
     """Takes the names of its parts out of a program or a library."""
-    done(["strip", "--strip-unneeded", *words, path], "/", os.path.basename(path), "stripped", f"{path} is not stripped")
+    done(
+        ["strip", "--strip-unneeded", *words, path],
+        "/",
+        os.path.basename(path),
+        "stripped",
+        f"{path} is not stripped",
+    )
 
 
 def put_file(source: str, path: str) -> None:
@@ -119,9 +189,18 @@ def fill(package: Package, top: str, room: str, edition: Edition) -> None:
     put(f"{documents}/changelog.gz", gzip.compress(changes(edition).encode(), 9, mtime=0), 0o644)
     put(f"{documents}/copyright", COPYRIGHT.encode(), 0o644)
     names = files_below(room)
-    size = sum(1 if os.path.islink(f"{room}/{it}") else (os.path.getsize(f"{room}/{it}") + 1023) // 1024 for it in names)
-    sums = "".join(f"{md5_of(f'{room}/{it}')}  {it}\n" for it in names if not os.path.islink(f"{room}/{it}"))
-    for name, text in {"control": control(package, edition, size), "md5sums": sums, **package.control}.items():
+    size = sum(
+        1 if os.path.islink(f"{room}/{it}") else (os.path.getsize(f"{room}/{it}") + 1023) // 1024
+        for it in names
+    )
+    sums = "".join(
+        f"{md5_of(f'{room}/{it}')}  {it}\n" for it in names if not os.path.islink(f"{room}/{it}")
+    )
+    for name, text in {
+        "control": control(package, edition, size),
+        "md5sums": sums,
+        **package.control,
+    }.items():
         write(f"{room}/DEBIAN/{name}", text, 0o755 if name in ("postinst", "prerm") else 0o644)
 
 
@@ -130,7 +209,9 @@ def md5_of(path: str) -> str:
     return hashlib.md5(data_of(path), usedforsecurity=False).hexdigest()
 
 
-def make_packages(root: str, build: Build, program: str, folder: str, room: str, edition: Edition) -> None:
+def make_packages(
+    root: str, build: Build, program: str, folder: str, room: str, edition: Edition
+) -> None:
     """Writes the packages into a folder."""
     top, kinds = staged(root, build, program, f"{room}/debian", LIBRARIES)
     for package in [*packages_of(root, top, kinds, edition), python_package(top, room, edition)]:
@@ -144,5 +225,15 @@ def make_package(package: Package, top: str, folder: str, tree: str, edition: Ed
     set_times(tree, edition.seconds)
     architecture = package.fields.splitlines()[0].removeprefix("Architecture: ")
     path = f"{folder}/{package.name}_{edition.debian}_{architecture}.deb"
-    words = ["env", f"SOURCE_DATE_EPOCH={edition.seconds}", "dpkg-deb", "--root-owner-group", "--threads-max=1", "-Zxz", "--build", tree, path]
+    words = [
+        "env",
+        f"SOURCE_DATE_EPOCH={edition.seconds}",
+        "dpkg-deb",
+        "--root-owner-group",
+        "--threads-max=1",
+        "-Zxz",
+        "--build",
+        tree,
+        path,
+    ]
     done(words, folder, package.name, "made", f"{package.name} is not made")

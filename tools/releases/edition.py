@@ -11,6 +11,7 @@ from tools.version import dotted
 @dataclass(frozen=True)
 class Edition:
     """The version, whether it is proved, the commit, and the seconds since 1970 that all files have as their time."""
+
     number: str
     is_proved: bool
     commit: str
@@ -40,7 +41,9 @@ class Edition:
 def answer_of(words: list[str], folder: str) -> str:
     """What a command prints; it has to succeed."""
     try:
-        return subprocess.run(words, cwd=folder, stdin=subprocess.DEVNULL, capture_output=True, text=True, check=True).stdout.strip()
+        return subprocess.run(
+            words, cwd=folder, stdin=subprocess.DEVNULL, capture_output=True, text=True, check=True
+        ).stdout.strip()
     except (OSError, subprocess.CalledProcessError) as error:
         raise Failed(f"{' '.join(words)}: {getattr(error, 'stderr', '') or error}") from error
 
@@ -49,7 +52,9 @@ def edition_of(root: str, is_proved: bool) -> Edition:
     """The edition of a clone in which nothing is changed."""
     changed = answer_of(["git", "status", "--porcelain", "--untracked-files=all"], root)
     if changed:
-        raise Failed(f"a release is made of a commit, and this clone has other files: {changed.splitlines()[0]}")
+        raise Failed(
+            f"a release is made of a commit, and this clone has other files: {changed.splitlines()[0]}"
+        )
     commit, committed = answer_of(["git", "log", "-1", "--format=%H %ct"], root).split()
     seconds = os.environ.get("SOURCE_DATE_EPOCH", committed)
     if not re.fullmatch(r"\d+", seconds):
@@ -58,5 +63,7 @@ def edition_of(root: str, is_proved: bool) -> Edition:
     with open(f"{root}/CHANGELOG.md", encoding="utf-8") as it:
         is_dated = re.search(rf"(?m)^## {re.escape(number)}, \d+ \w+ \d{{4}}$", it.read())
     if is_proved and not is_dated:
-        raise Failed(f"CHANGELOG.md has no line `## {number}, DAY MONTH YEAR`: a proved release is of a version with a date")
+        raise Failed(
+            f"CHANGELOG.md has no line `## {number}, DAY MONTH YEAR`: a proved release is of a version with a date"
+        )
     return Edition(number, is_proved, commit, int(seconds))

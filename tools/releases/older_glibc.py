@@ -20,6 +20,7 @@ class Unknown(Exception):
 @dataclass(frozen=True)
 class Segment:
     """A part of the file, and where it is loaded."""
+
     kind: int
     offset: int
     address: int
@@ -33,16 +34,24 @@ class Program:
         self.data = bytearray(data)
         if self.data[:6] != b"\x7fELF\x02\x01":
             raise Unknown("it is not an ELF file of 64 bits")
-        at, = struct.unpack_from("<Q", self.data, 32)
+        (at,) = struct.unpack_from("<Q", self.data, 32)
         size, count = struct.unpack_from("<HH", self.data, 54)
-        rows = [struct.unpack_from("<II5Q", self.data, at + size * number) for number in range(count)]
-        self.segments = [Segment(kind, offset, address, file_size) for kind, _, offset, address, _, file_size, _ in rows]
+        rows = [
+            struct.unpack_from("<II5Q", self.data, at + size * number) for number in range(count)
+        ]
+        self.segments = [
+            Segment(kind, offset, address, file_size)
+            for kind, _, offset, address, _, file_size, _ in rows
+        ]
         self.dynamic = self.dynamic_entries()
 
     def dynamic_entries(self) -> dict[int, tuple[int, int]]:
         """The entries of the dynamic section by their kinds: where each stands in the file, and its value."""
         for it in (it for it in self.segments if it.kind == DYNAMIC):
-            rows = [(at, *struct.unpack_from("<QQ", self.data, at)) for at in range(it.offset, it.offset + it.size, 16)]
+            rows = [
+                (at, *struct.unpack_from("<QQ", self.data, at))
+                for at in range(it.offset, it.offset + it.size, 16)
+            ]
             return {kind: (at, value) for at, kind, value in rows if kind != NULL}
         raise Unknown("it has no dynamic section")
 
@@ -51,7 +60,11 @@ class Program:
         if kind not in self.dynamic:
             raise Unknown(f"its dynamic section has no entry {kind:#x}")
         address = self.dynamic[kind][1]
-        found = [it.offset + address - it.address for it in self.segments if it.kind == LOADED and it.address <= address < it.address + it.size]
+        found = [
+            it.offset + address - it.address
+            for it in self.segments
+            if it.kind == LOADED and it.address <= address < it.address + it.size
+        ]
         if not found:
             raise Unknown(f"nothing is loaded at {address:#x}")
         return found[0]
@@ -59,7 +72,7 @@ class Program:
     def text(self, offset: int) -> bytes:
         """A text of the table of dynamic names."""
         begin = self.place(STRTAB) + offset
-        return bytes(self.data[begin:self.data.index(0, begin)])
+        return bytes(self.data[begin : self.data.index(0, begin)])
 
     def needed_versions(self) -> list[tuple[int, int, int]]:
         """The versions that the program needs: where each stands in the file, its number in the program, and where its name is in the table."""
@@ -78,8 +91,15 @@ class Program:
         """The names of the dynamic symbols that have this version. Their table ends where that of the numbers of their versions does: before the versions."""
         numbers, symbols = self.place(VERSYM), self.place(SYMTAB)
         count = (self.place(VERNEED) - numbers) // 2
-        its = [number for number in range(count) if struct.unpack_from("<H", self.data, numbers + 2 * number)[0] == version]
-        return [self.text(struct.unpack_from("<I", self.data, symbols + 24 * number)[0]) for number in its]
+        its = [
+            number
+            for number in range(count)
+            if struct.unpack_from("<H", self.data, numbers + 2 * number)[0] == version
+        ]
+        return [
+            self.text(struct.unpack_from("<I", self.data, symbols + 24 * number)[0])
+            for number in its
+        ]
 
 
 def hash_of(name: bytes) -> int:
@@ -95,9 +115,13 @@ def hash_of(name: bytes) -> int:
 def with_older_start(data: bytes) -> bytes:
     """The program, so that it starts over older versions of glibc too."""
     program = Program(data)
-    names = {program.text(name): (at, number, name) for at, number, name in program.needed_versions()}
+    names = {
+        program.text(name): (at, number, name) for at, number, name in program.needed_versions()
+    }
     if NEW not in names or OLD not in names:
-        raise Unknown(f"it needs {b', '.join(sorted(names)).decode()}, and not both {NEW.decode()} and {OLD.decode()}")
+        raise Unknown(
+            f"it needs {b', '.join(sorted(names)).decode()}, and not both {NEW.decode()} and {OLD.decode()}"
+        )
     at, number, _ = names[NEW]
     if program.names_of(number) != [START]:
         raise Unknown(f"these symbols have the version {NEW.decode()}: {program.names_of(number)}")
@@ -116,5 +140,9 @@ def needed_glibc(*files: bytes) -> str:
     for data in files:
         program = Program(data)
         names = [program.text(name).decode() for _, _, name in program.needed_versions()]
-        found += [tuple(int(it) for it in name.removeprefix("GLIBC_").split(".")) for name in names if name.startswith("GLIBC_2")]
+        found += [
+            tuple(int(it) for it in name.removeprefix("GLIBC_").split("."))
+            for name in names
+            if name.startswith("GLIBC_2")
+        ]
     return ".".join(map(str, max(found)))

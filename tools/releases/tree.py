@@ -10,8 +10,29 @@ from tools.releases.edition import Edition
 
 LIST, WHEELS, CRATES = "share/boxglue/installed.tsv", "share/boxglue/python", "share/boxglue/rust"
 # Files of the repository, by what they are below the folder and below share/doc/boxglue of a prefix.
-DOCUMENTS = ["README.md", "CHANGELOG.md", "SECURITY.md", *(f"docs/{it}.md" for it in ("QUICKSTART", "FAQ", "LIBRARY", "COMMANDS", "FORMATS", "REFUSALS", "AUTHORS", "PROVED")),
-             "docs/quickstart.png", "examples/first_page.box", "examples/plain.tfm", "examples/two_columns.box", "examples/pictures/two_columns-1.png"]
+DOCUMENTS = [
+    "README.md",
+    "CHANGELOG.md",
+    "SECURITY.md",
+    *(
+        f"docs/{it}.md"
+        for it in (
+            "QUICKSTART",
+            "FAQ",
+            "LIBRARY",
+            "COMMANDS",
+            "FORMATS",
+            "REFUSALS",
+            "AUTHORS",
+            "PROVED",
+        )
+    ),
+    "docs/quickstart.png",
+    "examples/first_page.box",
+    "examples/plain.tfm",
+    "examples/two_columns.box",
+    "examples/pictures/two_columns-1.png",
+]
 NO_LICENCE = """No licence has been chosen for boxglue. Ask the person who gave you these files before you use them or hand them on.
 The Rattle kit's libraries, of which parts are in the program and in the libraries, have licences of their own: the bill of materials names the libraries.
 """
@@ -33,10 +54,30 @@ def read(path: str) -> str:
         return it.read()
 
 
-def staged(root: str, build: Build, program: str, folder: str, libdir: str) -> tuple[str, dict[str, str]]:
+def staged(
+    root: str, build: Build, program: str, folder: str, libdir: str
+) -> tuple[str, dict[str, str]]:
     """What `./install` puts in place below a prefix, in a folder; and of each file what it is: proved, unproved or a text."""
-    words = ["env", f"DESTDIR={folder}", f"{root}/install", "--program", program, "--library", build.archive, "--prefix", "/usr", "--libdir", libdir]
-    done(words, root, f"what ./install puts in place, with {libdir}", "put together", "the files are not put together")
+    words = [
+        "env",
+        f"DESTDIR={folder}",
+        f"{root}/install",
+        "--program",
+        program,
+        "--library",
+        build.archive,
+        "--prefix",
+        "/usr",
+        "--libdir",
+        libdir,
+    ]
+    done(
+        words,
+        root,
+        f"what ./install puts in place, with {libdir}",
+        "put together",
+        "the files are not put together",
+    )
     top = f"{folder}/usr"
     rows = (line.split("\t") for line in read(f"{top}/{LIST}").splitlines())
     kinds = {path: kind for kind, path in rows if kind != "folder" and path != LIST}
@@ -51,16 +92,22 @@ def with_own_archive(top: str, kinds: dict[str, str], edition: Edition) -> None:
     shutil.copy(f"{top}/lib/libboxglue.a", f"{crates}/boxglue-sys/lib")
     kinds[f"{CRATES}/boxglue-sys/lib/libboxglue.a"] = kinds["lib/libboxglue.a"]
     write(f"{crates}/boxglue-sys/libdir", "lib\n")
-    for path in (f"{crates}/Cargo.toml", f"{crates}/boxglue/Cargo.toml", f"{crates}/boxglue-sys/Cargo.toml"):
+    for path in (
+        f"{crates}/Cargo.toml",
+        f"{crates}/boxglue/Cargo.toml",
+        f"{crates}/boxglue-sys/Cargo.toml",
+    ):
         text = read(path).replace(f'version = "{edition.number}"', f'version = "{edition.cargo}"')
         write(path, re.sub(r'(?m)^#.*\nexclude = \["libdir"\]\n', "", text))
 
 
 def without_lost_links(text: str, path: str, names: list[str]) -> str:
     """A document whose links to files that are not in the folder are their texts alone."""
+
     def shown(found: re.Match[str]) -> str:
         target = os.path.normpath(f"{os.path.dirname(path)}/{found[3]}")
         return found[0] if "://" in found[3] or target in names else found[2]
+
     return LINK.sub(shown, text)
 
 
@@ -69,7 +116,10 @@ def put_documents(root: str, top: str) -> dict[str, str]:
     for name in DOCUMENTS:
         os.makedirs(os.path.dirname(f"{top}/{name}"), exist_ok=True)
         if name.endswith(".md"):
-            write(f"{top}/{name}", without_lost_links(read(f"{root}/{name}"), name, [*DOCUMENTS, "docs/boxglue.1"]))
+            write(
+                f"{top}/{name}",
+                without_lost_links(read(f"{root}/{name}"), name, [*DOCUMENTS, "docs/boxglue.1"]),
+            )
         else:
             shutil.copyfile(f"{root}/{name}", f"{top}/{name}")
     shutil.copyfile(f"{root}/docs/boxglue.1", f"{top}/docs/boxglue.1")
@@ -79,7 +129,12 @@ def put_documents(root: str, top: str) -> dict[str, str]:
 
 def files_below(top: str) -> list[str]:
     """The files and links of a folder, in order."""
-    return sorted(os.path.relpath(f"{folder}/{it}", top) for folder, names, files in os.walk(top) for it in (*names, *files) if os.path.islink(f"{folder}/{it}") or it in files)
+    return sorted(
+        os.path.relpath(f"{folder}/{it}", top)
+        for folder, names, files in os.walk(top)
+        for it in (*names, *files)
+        if os.path.islink(f"{folder}/{it}") or it in files
+    )
 
 
 def data_of(path: str) -> bytes:
@@ -95,7 +150,12 @@ def sum_of(path: str) -> str:
 
 def write_sums(top: str) -> None:
     """Writes SHA256SUMS of all other files of a folder, as sha256sum does."""
-    write(f"{top}/SHA256SUMS", "".join(f"{sum_of(f'{top}/{it}')}  {it}\n" for it in files_below(top) if it != "SHA256SUMS"))
+    write(
+        f"{top}/SHA256SUMS",
+        "".join(
+            f"{sum_of(f'{top}/{it}')}  {it}\n" for it in files_below(top) if it != "SHA256SUMS"
+        ),
+    )
 
 
 def finish(root: str, top: str, kinds: dict[str, str], report: tuple[str, str]) -> None:
@@ -103,7 +163,13 @@ def finish(root: str, top: str, kinds: dict[str, str], report: tuple[str, str]) 
     name, text = report
     write(f"{top}/{name}", text)
     places = {**put_documents(root, top), name: f"share/doc/boxglue/{name}"}
-    rows = [*((kind, path, path) for path, kind in kinds.items()), *(("text", source, target) for source, target in places.items())]
-    write(f"{top}/FILES", "".join("\t".join(row) + "\n" for row in sorted(rows, key=lambda row: row[2])))
+    rows = [
+        *((kind, path, path) for path, kind in kinds.items()),
+        *(("text", source, target) for source, target in places.items()),
+    ]
+    write(
+        f"{top}/FILES",
+        "".join("\t".join(row) + "\n" for row in sorted(rows, key=lambda row: row[2])),
+    )
     shutil.copy(f"{root}/tools/releases/install.sh", f"{top}/install.sh")
     write_sums(top)

@@ -64,7 +64,19 @@ TYPE_CHECKING = False  # checkers of types take it for true; typing itself would
 if TYPE_CHECKING:
     from . import families as families, hyphenation as hyphenation, layout as layout, pdf as pdf
     from ._batches import Batch, Handle
-    from ._boxes import Box, GlueItem, GlueSetting, GlyphItem, Item, ItemKind, Items, KernItem, PenaltyItem, RuleItem, SpecialItem
+    from ._boxes import (
+        Box,
+        GlueItem,
+        GlueSetting,
+        GlyphItem,
+        Item,
+        ItemKind,
+        Items,
+        KernItem,
+        PenaltyItem,
+        RuleItem,
+        SpecialItem,
+    )
     from ._dimensions import bp, cc, cm, dd, inch, mm, pc, points, pt, scaled_points
     from ._encodings import OML, OMS, OT1, T1, TS1, FontEncoding
     from ._files import Bitmap, DviFont, Fault, check, fonts, listing, paint
@@ -72,36 +84,166 @@ if TYPE_CHECKING:
     from ._job import Job
     from ._library import proved, version
     from ._lists import LoadedFont, OpenBox, OpenList, OpenParagraph, Register
-    from ._marks import Document, Glyph, Mark, MarkKind, Marks, Page, Pages, Rule, Special, Units, marks
+    from ._marks import (
+        Document,
+        Glyph,
+        Mark,
+        MarkKind,
+        Marks,
+        Page,
+        Pages,
+        Rule,
+        Special,
+        Units,
+        marks,
+    )
     from ._metrics import CharacterMetrics, FontMetrics, FontStep, metrics
-    from ._replies import Added, End, Measured, Ok, Packed, Paragraph, Replies, Reply, ReplyKind, Shipped, Sizes, Split
+    from ._replies import (
+        Added,
+        End,
+        Measured,
+        Ok,
+        Packed,
+        Paragraph,
+        Replies,
+        Reply,
+        ReplyKind,
+        Shipped,
+        Sizes,
+        Split,
+    )
     from ._runs import Answers, Run, run
     from ._scripts import Glue, quote
     from ._status import (
-        AnswersLost, BadCharacter, BadFontName, BoxglueError, ListOpening, NeedsRecovery, NoJob, NoSuchPage, OutOfMemory, OutOfRange, Refused, Status,
+        AnswersLost,
+        BadCharacter,
+        BadFontName,
+        BoxglueError,
+        ListOpening,
+        NeedsRecovery,
+        NoJob,
+        NoSuchPage,
+        OutOfMemory,
+        OutOfRange,
+        Refused,
+        Status,
     )
 
 __all__ = [
-    "Added", "Answers", "AnswersLost", "BadCharacter", "BadFontName", "Batch", "Bitmap", "Box", "BoxglueError", "CharacterMetrics", "Document",
-    "DviFont", "End", "Fault", "FontEncoding", "FontFolder", "FontMetrics", "FontStep", "Glue", "GlueItem", "GlueSetting", "Glyph", "GlyphItem",
-    "Handle", "Item", "ItemKind", "Items", "Job", "KernItem", "ListOpening", "LoadedFont", "Mark", "MarkKind", "Marks", "Measured", "NeedsRecovery",
-    "NoJob", "NoSuchPage", "OML", "OMS", "OT1", "Ok", "OpenBox", "OpenList", "OpenParagraph", "OutOfMemory", "OutOfRange", "Packed", "Page", "Pages",
-    "Paragraph", "PenaltyItem", "Refused", "Register", "Replies", "Reply", "ReplyKind", "Rule", "RuleItem", "Run", "Shipped", "Sizes", "Special",
-    "SpecialItem", "Split", "Status", "T1", "TS1", "Units", "bp", "cc", "check", "cm", "dd", "fonts", "inch", "listing", "marks", "metrics", "mm",
-    "paint", "pc", "points", "proved", "pt", "quote", "run", "scaled_points", "version",
+    "Added",
+    "Answers",
+    "AnswersLost",
+    "BadCharacter",
+    "BadFontName",
+    "Batch",
+    "Bitmap",
+    "Box",
+    "BoxglueError",
+    "CharacterMetrics",
+    "Document",
+    "DviFont",
+    "End",
+    "Fault",
+    "FontEncoding",
+    "FontFolder",
+    "FontMetrics",
+    "FontStep",
+    "Glue",
+    "GlueItem",
+    "GlueSetting",
+    "Glyph",
+    "GlyphItem",
+    "Handle",
+    "Item",
+    "ItemKind",
+    "Items",
+    "Job",
+    "KernItem",
+    "ListOpening",
+    "LoadedFont",
+    "Mark",
+    "MarkKind",
+    "Marks",
+    "Measured",
+    "NeedsRecovery",
+    "NoJob",
+    "NoSuchPage",
+    "OML",
+    "OMS",
+    "OT1",
+    "Ok",
+    "OpenBox",
+    "OpenList",
+    "OpenParagraph",
+    "OutOfMemory",
+    "OutOfRange",
+    "Packed",
+    "Page",
+    "Pages",
+    "Paragraph",
+    "PenaltyItem",
+    "Refused",
+    "Register",
+    "Replies",
+    "Reply",
+    "ReplyKind",
+    "Rule",
+    "RuleItem",
+    "Run",
+    "Shipped",
+    "Sizes",
+    "Special",
+    "SpecialItem",
+    "Split",
+    "Status",
+    "T1",
+    "TS1",
+    "Units",
+    "bp",
+    "cc",
+    "check",
+    "cm",
+    "dd",
+    "fonts",
+    "inch",
+    "listing",
+    "marks",
+    "metrics",
+    "mm",
+    "paint",
+    "pc",
+    "points",
+    "proved",
+    "pt",
+    "quote",
+    "run",
+    "scaled_points",
+    "version",
 ]
 __version__ = "1.2.0"
 
 # The module of each name.
-_MODULES = {name: module for module, names in {
-    "_batches": "Batch Handle", "_boxes": "Box GlueItem GlueSetting GlyphItem Item ItemKind Items KernItem PenaltyItem RuleItem SpecialItem",
-    "_dimensions": "bp cc cm dd inch mm pc points pt scaled_points", "_encodings": "FontEncoding OML OMS OT1 T1 TS1",
-    "_files": "Bitmap DviFont Fault check fonts listing paint", "_fonts": "FontFolder", "_job": "Job", "_library": "proved version",
-    "_lists": "LoadedFont OpenBox OpenList OpenParagraph Register", "_marks": "Document Glyph Mark MarkKind Marks Page Pages Rule Special Units marks",
-    "_metrics": "CharacterMetrics FontMetrics FontStep metrics",
-    "_replies": "Added End Measured Ok Packed Paragraph Replies Reply ReplyKind Shipped Sizes Split", "_runs": "Answers Run run", "_scripts": "Glue quote",
-    "_status": "AnswersLost BadCharacter BadFontName BoxglueError ListOpening NeedsRecovery NoJob NoSuchPage OutOfMemory OutOfRange Refused Status",
-}.items() for name in names.split()}
+_MODULES = {
+    name: module
+    for module, names in {
+        "_batches": "Batch Handle",
+        "_boxes": "Box GlueItem GlueSetting GlyphItem Item ItemKind Items KernItem PenaltyItem RuleItem SpecialItem",
+        "_dimensions": "bp cc cm dd inch mm pc points pt scaled_points",
+        "_encodings": "FontEncoding OML OMS OT1 T1 TS1",
+        "_files": "Bitmap DviFont Fault check fonts listing paint",
+        "_fonts": "FontFolder",
+        "_job": "Job",
+        "_library": "proved version",
+        "_lists": "LoadedFont OpenBox OpenList OpenParagraph Register",
+        "_marks": "Document Glyph Mark MarkKind Marks Page Pages Rule Special Units marks",
+        "_metrics": "CharacterMetrics FontMetrics FontStep metrics",
+        "_replies": "Added End Measured Ok Packed Paragraph Replies Reply ReplyKind Shipped Sizes Split",
+        "_runs": "Answers Run run",
+        "_scripts": "Glue quote",
+        "_status": "AnswersLost BadCharacter BadFontName BoxglueError ListOpening NeedsRecovery NoJob NoSuchPage OutOfMemory OutOfRange Refused Status",
+    }.items()
+    for name in names.split()
+}
 
 
 def __getattr__(name: str) -> object:

@@ -40,6 +40,7 @@ def outside() -> FrameType:
 @public
 class Handle(Generic[ReplyT]):
     """A command of a batch, whose reply it has once the batch has ended."""
+
     __slots__ = "_batch", "_at"
     _batch: Batch
     _at: int
@@ -70,6 +71,7 @@ class Handle(Generic[ReplyT]):
 
 class TextHandle(Handle[Added]):
     """The handle of a text that is sent as several commands: one reply for all of them."""
+
     __slots__ = ("_count",)
 
     def __init__(self, batch: Batch, at: int, count: int) -> None:
@@ -81,7 +83,14 @@ class TextHandle(Handle[Added]):
 
     @property
     def refusal(self) -> Refused | None:
-        return next((why for it in range(self._at, self._at + self._count) if (why := self._batch.refusal(it))), None)
+        return next(
+            (
+                why
+                for it in range(self._at, self._at + self._count)
+                if (why := self._batch.refusal(it))
+            ),
+            None,
+        )
 
 
 def added(replies: list[Reply]) -> Added:
@@ -93,7 +102,9 @@ def added(replies: list[Reply]) -> Added:
 
 
 @public
-class Batch(Commands["Handle[Ok]", "Handle[Added]", "Handle[Split]", "Handle[Measured]", "Handle[Shipped]"]):
+class Batch(
+    Commands["Handle[Ok]", "Handle[Added]", "Handle[Split]", "Handle[Measured]", "Handle[Shipped]"]
+):
     """Commands that are sent in one call, at the end of a `with`.
 
         with job.batch() as it:
@@ -128,7 +139,12 @@ class Batch(Commands["Handle[Ok]", "Handle[Added]", "Handle[Split]", "Handle[Mea
         self._is_open = True
         self._before = [*self._state.lists], self._state.current, {**self._state.fonts}
 
-    def __exit__(self, kind: type[BaseException] | None, error: BaseException | None, trace: TracebackType | None) -> None:
+    def __exit__(
+        self,
+        kind: type[BaseException] | None,
+        error: BaseException | None,
+        trace: TracebackType | None,
+    ) -> None:
         self._is_open = False
         self._job._batch = None
         if kind is None:
@@ -212,7 +228,9 @@ class Batch(Commands["Handle[Ok]", "Handle[Added]", "Handle[Split]", "Handle[Mea
             BoxglueError: The batch has not ended, or was not run.
         """
         if self._replies is None:
-            raise BoxglueError("the batch has not ended" if self._is_open else "the batch was not run")
+            raise BoxglueError(
+                "the batch has not ended" if self._is_open else "the batch was not run"
+            )
         found = self._replies[at]
         return found if isinstance(found, Refused) else None
 
@@ -306,4 +324,8 @@ class Batch(Commands["Handle[Ok]", "Handle[Added]", "Handle[Split]", "Handle[Mea
 
 def answers_wrong(replies: Sequence[Reply]) -> BoxglueError:
     """The exception for a piece that was refused as a whole."""
-    return replies[0] if replies and isinstance(replies[0], Refused) else BoxglueError("a command has no reply")
+    return (
+        replies[0]
+        if replies and isinstance(replies[0], Refused)
+        else BoxglueError("a command has no reply")
+    )

@@ -9,8 +9,23 @@ from ._encoded import codes_of, encoded, refuse_missing
 from ._encodings import ASCII
 from ._lists import LoadedFont, OpenBox, OpenParagraph, Register
 from ._scripts import (
-    CHARACTERS, COUNTS, LARGEST_FONT, MOST_FIRST_LINES, MOST_PENALTY, SLOTS, Glue, dimension, glue, glue_parameter, length, name_of_font, number, quote, register,
-    sizes_of_rule, target,
+    CHARACTERS,
+    COUNTS,
+    LARGEST_FONT,
+    MOST_FIRST_LINES,
+    MOST_PENALTY,
+    SLOTS,
+    Glue,
+    dimension,
+    glue,
+    glue_parameter,
+    length,
+    name_of_font,
+    number,
+    quote,
+    register,
+    sizes_of_rule,
+    target,
 )
 from ._status import BoxglueError
 
@@ -48,43 +63,56 @@ class Commands(ABC, Generic[OkT, AddedT, SplitT, MeasuredT, ShippedT]):
 
     Use these calls of one job in one thread at a time: a list that one thread opens is open for all.
     """
+
     _state: State
 
     # What a job and a batch do with a command.
 
     @abstractmethod
-    def _check(self) -> None: ...
+    def _check(self) -> None:
+        ...
 
     @abstractmethod
-    def _ok(self, line: str) -> OkT: ...
+    def _ok(self, line: str) -> OkT:
+        ...
 
     @abstractmethod
-    def _added(self, line: str) -> AddedT: ...
+    def _added(self, line: str) -> AddedT:
+        ...
 
     @abstractmethod
-    def _text(self, lines: list[str]) -> AddedT: ...
+    def _text(self, lines: list[str]) -> AddedT:
+        ...
 
     @abstractmethod
-    def _split(self, line: str) -> SplitT: ...
+    def _split(self, line: str) -> SplitT:
+        ...
 
     @abstractmethod
-    def _measured(self, line: str) -> MeasuredT: ...
+    def _measured(self, line: str) -> MeasuredT:
+        ...
 
     @abstractmethod
-    def _shipped(self, line: str) -> ShippedT: ...
+    def _shipped(self, line: str) -> ShippedT:
+        ...
 
     @abstractmethod
-    def _load(self, font: LoadedFont, line: str) -> None: ...
+    def _load(self, font: LoadedFont, line: str) -> None:
+        ...
 
     @abstractmethod
-    def _box(self, form: Form, size: str) -> OpenBox: ...
+    def _box(self, form: Form, size: str) -> OpenBox:
+        ...
 
     @abstractmethod
-    def _paragraph(self) -> OpenParagraph: ...
+    def _paragraph(self) -> OpenParagraph:
+        ...
 
     # Fonts.
 
-    def load(self, name: str, *, at: SupportsIndex | None = None, slot: SupportsIndex | None = None) -> LoadedFont:
+    def load(
+        self, name: str, *, at: SupportsIndex | None = None, slot: SupportsIndex | None = None
+    ) -> LoadedFont:
         """Loads a font, unless it is loaded at this size already.
 
         Args:
@@ -106,7 +134,9 @@ class Commands(ABC, Generic[OkT, AddedT, SplitT, MeasuredT, ShippedT]):
             return found
         words = f"{name_of_font(name)}{'' if size is None else f' at {size}sp'}\n"
         while True:
-            chosen = self._state.free_slot() if slot is None else number(slot, 0, SLOTS - 1, "a slot")
+            chosen = (
+                self._state.free_slot() if slot is None else number(slot, 0, SLOTS - 1, "a slot")
+            )
             font = LoadedFont(chosen, name, size)
             self._load(font, f"font {chosen} {words}")
             if slot is not None or self._state.fonts.get(chosen) is font:
@@ -126,15 +156,27 @@ class Commands(ABC, Generic[OkT, AddedT, SplitT, MeasuredT, ShippedT]):
             BoxglueError: The font is not a font of this job.
         """
         if isinstance(font, str):
-            raise TypeError(f"a font must be one of load() or the number of its slot: job.use(job.load({font!r}))")
-        slot = self._state.own(font).slot if isinstance(font, LoadedFont) else number(font, 0, SLOTS - 1, "a slot")
+            raise TypeError(
+                f"a font must be one of load() or the number of its slot: job.use(job.load({font!r}))"
+            )
+        slot = (
+            self._state.own(font).slot
+            if isinstance(font, LoadedFont)
+            else number(font, 0, SLOTS - 1, "a slot")
+        )
         done = self._ok(f"use {slot}\n")
         self._state.current = font if isinstance(font, LoadedFont) else self._state.fonts.get(slot)
         return done
 
     # Lists.
 
-    def hbox(self, *, to: SupportsIndex | None = None, spread: SupportsIndex | None = None, into: SupportsIndex | None = None) -> OpenBox:
+    def hbox(
+        self,
+        *,
+        to: SupportsIndex | None = None,
+        spread: SupportsIndex | None = None,
+        into: SupportsIndex | None = None,
+    ) -> OpenBox:
         """Opens the list of an hbox, for a `with`.
 
         Args:
@@ -151,7 +193,13 @@ class Commands(ABC, Generic[OkT, AddedT, SplitT, MeasuredT, ShippedT]):
         """
         return self._box("hbox", target(to, spread, into))
 
-    def vbox(self, *, to: SupportsIndex | None = None, spread: SupportsIndex | None = None, into: SupportsIndex | None = None) -> OpenBox:
+    def vbox(
+        self,
+        *,
+        to: SupportsIndex | None = None,
+        spread: SupportsIndex | None = None,
+        into: SupportsIndex | None = None,
+    ) -> OpenBox:
         """Opens the list of a vbox, for a `with`.
 
         Args:
@@ -168,7 +216,13 @@ class Commands(ABC, Generic[OkT, AddedT, SplitT, MeasuredT, ShippedT]):
         """
         return self._box("vbox", target(to, spread, into))
 
-    def vtop(self, *, to: SupportsIndex | None = None, spread: SupportsIndex | None = None, into: SupportsIndex | None = None) -> OpenBox:
+    def vtop(
+        self,
+        *,
+        to: SupportsIndex | None = None,
+        spread: SupportsIndex | None = None,
+        into: SupportsIndex | None = None,
+    ) -> OpenBox:
         """Opens the list of a vtop, a vbox whose height is its first item's, for a `with`.
 
         Args:
@@ -212,7 +266,9 @@ class Commands(ABC, Generic[OkT, AddedT, SplitT, MeasuredT, ShippedT]):
 
     # Items.
 
-    def text(self, text: str, *, encoding: Encoding | None = None, missing: Missing = "count") -> AddedT:
+    def text(
+        self, text: str, *, encoding: Encoding | None = None, missing: Missing = "count"
+    ) -> AddedT:
         """Adds a text in the current font, with its kerns and ligatures.
 
         Args:
@@ -263,7 +319,9 @@ class Commands(ABC, Generic[OkT, AddedT, SplitT, MeasuredT, ShippedT]):
         Raises:
             Refused: No list is open (NoOpenList), or it is full (ListTooLong).
         """
-        if type(amount) is int and -1_073_741_823 <= amount <= 1_073_741_823:  # as in `length`, and quicker
+        if (
+            type(amount) is int and -1_073_741_823 <= amount <= 1_073_741_823
+        ):  # as in `length`, and quicker
             return self._ok(f"kern {amount}sp\n")
         return self._ok(f"kern {length(amount)}\n")
 
@@ -297,7 +355,9 @@ class Commands(ABC, Generic[OkT, AddedT, SplitT, MeasuredT, ShippedT]):
         """
         return self._ok(f"penalty {number(penalty, -MOST_PENALTY, MOST_PENALTY, 'a penalty')}\n")
 
-    def rule(self, width: SupportsIndex | None, height: SupportsIndex | None, depth: SupportsIndex | None) -> OkT:
+    def rule(
+        self, width: SupportsIndex | None, height: SupportsIndex | None, depth: SupportsIndex | None
+    ) -> OkT:
         """Adds a rule. A size of None comes from the box around the rule.
 
         Args:
@@ -311,8 +371,14 @@ class Commands(ABC, Generic[OkT, AddedT, SplitT, MeasuredT, ShippedT]):
         Raises:
             Refused: No list is open (NoOpenList), the list does not allow this None (WrongMode), or it is full (ListTooLong).
         """
-        if type(width) is int and type(height) is int and type(depth) is int:  # as in `sizes_of_rule`, and quicker
-            if -1_073_741_823 <= width <= 1_073_741_823 and -1_073_741_823 <= height <= 1_073_741_823 and -1_073_741_823 <= depth <= 1_073_741_823:
+        if (
+            type(width) is int and type(height) is int and type(depth) is int
+        ):  # as in `sizes_of_rule`, and quicker
+            if (
+                -1_073_741_823 <= width <= 1_073_741_823
+                and -1_073_741_823 <= height <= 1_073_741_823
+                and -1_073_741_823 <= depth <= 1_073_741_823
+            ):
                 return self._ok(f"rule {width}sp {height}sp {depth}sp\n")
         return self._ok(f"rule {sizes_of_rule(width, height, depth)}\n")
 
@@ -365,7 +431,9 @@ class Commands(ABC, Generic[OkT, AddedT, SplitT, MeasuredT, ShippedT]):
         Raises:
             Refused: No list is open (NoOpenList), the glue before the box does not fit (DimensionTooLarge), or the list is full (ListTooLong).
         """
-        return self._added(f"box {register(box)}{f' shift {dimension(shift)}sp' if shift else ''}\n")
+        return self._added(
+            f"box {register(box)}{f' shift {dimension(shift)}sp' if shift else ''}\n"
+        )
 
     def copy(self, box: SupportsIndex, *, shift: SupportsIndex = 0) -> AddedT:
         """Adds a copy of the box of a register.
@@ -380,7 +448,9 @@ class Commands(ABC, Generic[OkT, AddedT, SplitT, MeasuredT, ShippedT]):
         Raises:
             Refused: No list is open (NoOpenList), the glue before the box does not fit (DimensionTooLarge), or the list is full (ListTooLong).
         """
-        return self._added(f"copy {register(box)}{f' shift {dimension(shift)}sp' if shift else ''}\n")
+        return self._added(
+            f"copy {register(box)}{f' shift {dimension(shift)}sp' if shift else ''}\n"
+        )
 
     def unhbox(self, box: SupportsIndex) -> AddedT:
         """Adds the items of the hbox of a register, which becomes void.
@@ -498,13 +568,29 @@ class Commands(ABC, Generic[OkT, AddedT, SplitT, MeasuredT, ShippedT]):
 
     # Parameters and pages.
 
-    def set(self, *, boxmaxdepth: SupportsIndex | None = None, splitmaxdepth: SupportsIndex | None = None, splittopskip: Glue | SupportsIndex | None = None,
-            baselineskip: Glue | SupportsIndex | None = None, lineskip: Glue | SupportsIndex | None = None, lineskiplimit: SupportsIndex | None = None,
-            hsize: SupportsIndex | None = None, firstsize: SupportsIndex | None = None, firstlines: SupportsIndex | None = None,
-            parfillskip: Glue | SupportsIndex | None = None, pretolerance: SupportsIndex | None = None, tolerance: SupportsIndex | None = None,
-            linepenalty: SupportsIndex | None = None, adjdemerits: SupportsIndex | None = None, clubpenalty: SupportsIndex | None = None,
-            widowpenalty: SupportsIndex | None = None, interlinepenalty: SupportsIndex | None = None, hoffset: SupportsIndex | None = None,
-            voffset: SupportsIndex | None = None) -> list[OkT]:
+    def set(
+        self,
+        *,
+        boxmaxdepth: SupportsIndex | None = None,
+        splitmaxdepth: SupportsIndex | None = None,
+        splittopskip: Glue | SupportsIndex | None = None,
+        baselineskip: Glue | SupportsIndex | None = None,
+        lineskip: Glue | SupportsIndex | None = None,
+        lineskiplimit: SupportsIndex | None = None,
+        hsize: SupportsIndex | None = None,
+        firstsize: SupportsIndex | None = None,
+        firstlines: SupportsIndex | None = None,
+        parfillskip: Glue | SupportsIndex | None = None,
+        pretolerance: SupportsIndex | None = None,
+        tolerance: SupportsIndex | None = None,
+        linepenalty: SupportsIndex | None = None,
+        adjdemerits: SupportsIndex | None = None,
+        clubpenalty: SupportsIndex | None = None,
+        widowpenalty: SupportsIndex | None = None,
+        interlinepenalty: SupportsIndex | None = None,
+        hoffset: SupportsIndex | None = None,
+        voffset: SupportsIndex | None = None,
+    ) -> list[OkT]:
         """Sets parameters (docs/COMMANDS.md, section 1), and leaves those that are not given.
 
         Args:
@@ -539,7 +625,9 @@ class Commands(ABC, Generic[OkT, AddedT, SplitT, MeasuredT, ShippedT]):
         Raises:
             ValueError: A number is out of its range.
         """
-        return self._ok(f"count {number(which, 0, COUNTS - 1, 'a count')} {number(value, -1 << 31, (1 << 31) - 1, 'the value of a count')}\n")
+        return self._ok(
+            f"count {number(which, 0, COUNTS - 1, 'a count')} {number(value, -1 << 31, (1 << 31) - 1, 'the value of a count')}\n"
+        )
 
     def ship(self, box: SupportsIndex) -> ShippedT:
         """Ships the box of a register as the next page. The register becomes void.
@@ -575,7 +663,9 @@ class Commands(ABC, Generic[OkT, AddedT, SplitT, MeasuredT, ShippedT]):
     def _needed(self, metrics: Metrics | None, text: str, codes: list[int]) -> None:
         """Raises for what the font lacks."""
         if metrics is None:
-            raise BoxglueError("missing=\"raise\" needs the metrics of the current font, which are not known here")
+            raise BoxglueError(
+                'missing="raise" needs the metrics of the current font, which are not known here'
+            )
         refuse_missing(text, codes, metrics)
 
 

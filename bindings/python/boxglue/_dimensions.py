@@ -19,7 +19,14 @@ _NUMBER = r"([+-]?)(\d+(?:\.\d*)?|\.\d+)"
 _DIMENSION = re.compile(_NUMBER + "([a-z]{2})", re.ASCII)
 _AMOUNT = re.compile(_NUMBER, re.ASCII)
 _UNITS = {
-    "pt": (1, 1), "pc": (12, 1), "in": (7227, 100), "bp": (7227, 7200), "cm": (7227, 254), "mm": (7227, 2540), "dd": (1238, 1157), "cc": (14856, 1157),
+    "pt": (1, 1),
+    "pc": (12, 1),
+    "in": (7227, 100),
+    "bp": (7227, 7200),
+    "cm": (7227, 254),
+    "mm": (7227, 2540),
+    "dd": (1238, 1157),
+    "cc": (14856, 1157),
 }
 
 
@@ -38,7 +45,9 @@ def scaled_points(text: str) -> int:
     """
     found = _DIMENSION.fullmatch(text)
     if not found or found[3] not in (*_UNITS, "sp"):
-        raise ValueError(f"{text!r} is not a dimension: write a number and a unit, such as 12.5pt, without em or ex")
+        raise ValueError(
+            f"{text!r} is not a dimension: write a number and a unit, such as 12.5pt, without em or ex"
+        )
     if found[3] == "sp":
         return _signed(int(found[2].partition(".")[0] or "0"), found[1] == "-", text, "")
     return _in_unit(found[1] + found[2], found[3])
@@ -68,7 +77,13 @@ def points(dimension: int) -> str:
             return f"{'-' if dimension < 0 else ''}{abs(dimension) // POINT}.{digits}pt"
 
 
-def _signed(size: int, is_negative: bool, given: object, unit: str, most: str = "a dimension is at most 16383.99998pt") -> int:
+def _signed(
+    size: int,
+    is_negative: bool,
+    given: object,
+    unit: str,
+    most: str = "a dimension is at most 16383.99998pt",
+) -> int:
     """A dimension of this absolute value, which has to fit."""
     if size > GREATEST:
         raise ValueError(f"{given!s:.40}{unit} is too large: {most}")
@@ -78,7 +93,11 @@ def _signed(size: int, is_negative: bool, given: object, unit: str, most: str = 
 def _no_number(amount: object) -> ValueError:
     """What is raised for an amount that is not a number."""
     found = _DIMENSION.fullmatch(amount) if isinstance(amount, str) else None
-    advice = f": leave out the unit, or call scaled_points({amount!r})" if found and found[3] in (*_UNITS, "sp") else ""
+    advice = (
+        f": leave out the unit, or call scaled_points({amount!r})"
+        if found and found[3] in (*_UNITS, "sp")
+        else ""
+    )
     return ValueError(f"{amount!r:.40} is not a number{advice}")
 
 
@@ -105,7 +124,9 @@ def _size(amount: Amount, unit: str) -> tuple[int, bool]:
     points, rounded down. Whether the amount is negative stands beside them."""
     (top, bottom), (num, den) = _ratio(amount), _UNITS[unit]
     if isinstance(amount, float) and POINT * top % bottom:
-        raise ValueError(f"{amount!r} is not exact: give {unit} a text, a Fraction or a Decimal, such as \"{amount!r}\"")
+        raise ValueError(
+            f'{amount!r} is not exact: give {unit} a text, a Fraction or a Decimal, such as "{amount!r}"'
+        )
     fraction = (2 * POINT * abs(top) + bottom) // (2 * bottom)
     return fraction * num // den, top < 0
 
@@ -117,7 +138,9 @@ def _in_unit(amount: Amount, unit: str) -> int:
 
 def scaled(amount: Amount) -> int:
     """An amount of stretch or shrink of an infinite order in 65536ths, as a script reads it."""
-    return _signed(*_size(amount, "pt"), amount, "", "an infinite stretch or shrink is at most 16383.99998")
+    return _signed(
+        *_size(amount, "pt"), amount, "", "an infinite stretch or shrink is at most 16383.99998"
+    )
 
 
 @public

@@ -23,10 +23,18 @@ def codes_of(text: str, encoding: Encoding) -> list[int]:
     if _LACKED in codes:
         place = codes.index(_LACKED)
         example = ", such as boxglue.T1" if text[place] in T1 else ""
-        raise BadCharacter(text, place, f"the encoding lacks it{one_line(text[place]) or f': use a font and an encoding that have it{example}'}")
-    wrong = next((place for place, it in enumerate(codes) if it != SPACE and not 0 <= it < CHARACTERS), None)
+        raise BadCharacter(
+            text,
+            place,
+            f"the encoding lacks it{one_line(text[place]) or f': use a font and an encoding that have it{example}'}",
+        )
+    wrong = next(
+        (place for place, it in enumerate(codes) if it != SPACE and not 0 <= it < CHARACTERS), None
+    )
     if wrong is not None:
-        raise BadCharacter(text, wrong, f"the encoding has the code {codes[wrong]}, and codes are 0 to 255")
+        raise BadCharacter(
+            text, wrong, f"the encoding has the code {codes[wrong]}, and codes are 0 to 255"
+        )
     return codes
 
 
@@ -80,7 +88,9 @@ def encoded(codes: Sequence[int], metrics: Metrics | None) -> list[str]:
         return [f"text {whole}\n"]
     lines: list[str] = []
     text, kern, was_plain = "", 0, False
-    for sources, code, next_kern in (glyph for word in _words(codes) for glyph in shaped(word, metrics)):
+    for sources, code, next_kern in (
+        glyph for word in _words(codes) for glyph in shaped(word, metrics)
+    ):
         plain = _plain(sources)
         if text and plain is None:
             lines.append(f"text {text}\n")

@@ -10,7 +10,22 @@ from dataclasses import dataclass
 from typing import Any
 
 from ._fonts import FontFolder
-from ._library import DVI_ROOM, FONT_ROOM, TEXT_ROOM, Data, DviFontRow, FaultRow, Fonts, FontSizes, data_of, given_fonts, library, new_buffer, one_output, sized
+from ._library import (
+    DVI_ROOM,
+    FONT_ROOM,
+    TEXT_ROOM,
+    Data,
+    DviFontRow,
+    FaultRow,
+    Fonts,
+    FontSizes,
+    data_of,
+    given_fonts,
+    library,
+    new_buffer,
+    one_output,
+    sized,
+)
 from ._public import public
 from ._replies import _DVI_CAUSES, _METRIC_CAUSES, _REFUSALS
 from ._status import BoxglueError, Refused, Status, fail
@@ -24,6 +39,7 @@ _REFUSAL = re.compile(r"refused (\d+) (\w+)(?: (.*))?\n")
 @dataclass(frozen=True, slots=True)
 class DviFont:
     """A font that a DVI file defines: its number, its name, its size and design size in DVI units (scaled points in boxglue's own files), and its check sum."""
+
     number: int
     name: str
     size: int
@@ -35,6 +51,7 @@ class DviFont:
 @dataclass(frozen=True, slots=True)
 class Bitmap:
     """A bitmap as plain PBM."""
+
     pbm: str
 
     def __repr__(self) -> str:
@@ -49,8 +66,10 @@ class Bitmap:
     @property
     def rows(self) -> list[str]:
         """The rows from the top, each with a "1" for a black pixel and a "0" for a white one."""
-        (width, _), pixels = self.size, "".join(self.pbm.split()[3:])  # a wide row has several lines
-        return [pixels[at:at + width] for at in range(0, len(pixels), width)]
+        (width, _), pixels = self.size, "".join(
+            self.pbm.split()[3:]
+        )  # a wide row has several lines
+        return [pixels[at : at + width] for at in range(0, len(pixels), width)]
 
 
 @public
@@ -62,6 +81,7 @@ class Fault:
     it in the file. `missing` is the name of the font that is missing. `font` is the number by which the file selects the font whose metric file is refused. Each is
     None if the refusal does not have it.
     """
+
     name: str
     number: int
     cause: str | None = None
@@ -82,10 +102,16 @@ def refusal_of_file(line: bytes, words: tuple[Any, ...]) -> Refused:
     """The refusal of a file in the line that a call with these words writes for it, with the name of a font that is missing."""
     refused = refusal_in(line)
     fault = _fault_of(words)[1] if refused.name == "NoFont" else None
-    return refused.of_command(None, None, (), f"no metric file for {fault.missing!r}") if fault else refused
+    return (
+        refused.of_command(None, None, (), f"no metric file for {fault.missing!r}")
+        if fault
+        else refused
+    )
 
 
-def _text(call: Callable[..., int], words: tuple[Any, ...], more: tuple[int, ...], room: int) -> str:
+def _text(
+    call: Callable[..., int], words: tuple[Any, ...], more: tuple[int, ...], room: int
+) -> str:
     """The text of a call with these words, and one buffer. A refusal is raised."""
     status, output = one_output(lambda *buffer: call(*words, *more, *buffer), room)
     if status == Status.REFUSED:
@@ -148,19 +174,38 @@ def _fault_of(words: tuple[Any, ...]) -> tuple[int, Fault | None]:
     """The status of the check of a file, and the fault if it is refused."""
     fault, name = FaultRow(), new_buffer(NAME_ROOM)
     status: int = library().boxglue_check(*words, byref(fault), name, NAME_ROOM)
-    return status, _fault(fault, ctypes.string_at(name, fault.name_size)) if status == Status.REFUSED else None
+    return (
+        status,
+        _fault(fault, ctypes.string_at(name, fault.name_size))
+        if status == Status.REFUSED
+        else None,
+    )
 
 
 def _fault(row: FaultRow, name: bytes) -> Fault:
     """A fault of its row, with the name of a missing font."""
     named = _REFUSALS[row.number]
     causes = {"BadDvi": _DVI_CAUSES, "BadTfm": _METRIC_CAUSES}.get(named)
-    return Fault(named, row.number, causes[row.cause] if causes else None, row.place if named == "BadDvi" else None,
-                 name.decode("utf-8", "surrogateescape") if named == "NoFont" else None, row.font if named in ("BadTfm", "DimensionTooLarge") else None)
+    return Fault(
+        named,
+        row.number,
+        causes[row.cause] if causes else None,
+        row.place if named == "BadDvi" else None,
+        name.decode("utf-8", "surrogateescape") if named == "NoFont" else None,
+        row.font if named in ("BadTfm", "DimensionTooLarge") else None,
+    )
 
 
 @public
-def paint(dvi: Data, fonts: Fonts = (), *, page: int = 1, dpi: int = 100, width: int = 850, height: int = 1100) -> Bitmap:
+def paint(
+    dvi: Data,
+    fonts: Fonts = (),
+    *,
+    page: int = 1,
+    dpi: int = 100,
+    width: int = 850,
+    height: int = 1100,
+) -> Bitmap:
     """Paints the rules of a page of a DVI file.
 
     Args:
@@ -185,7 +230,11 @@ def paint(dvi: Data, fonts: Fonts = (), *, page: int = 1, dpi: int = 100, width:
     if not all(0 <= it < 1 << 32 for it in numbers):
         fail(Status.OUT_OF_RANGE)  # ctypes would cut it to 32 bits
     words = file_words(data_of(dvi, "a DVI file"), fonts)
-    room = len(f"P1\n{width} {height}\n") + (width + -(-width // 70)) * height if max(width, height) <= 10_000 else 0
+    room = (
+        len(f"P1\n{width} {height}\n") + (width + -(-width // 70)) * height
+        if max(width, height) <= 10_000
+        else 0
+    )
     return Bitmap(_text(library().boxglue_paint, words, (*numbers,), max(room, TEXT_ROOM)))
 
 
@@ -215,9 +264,12 @@ def fonts(dvi: Data) -> list[DviFont]:
     names = ctypes.string_at(text, sizes.text)
     if status == Status.REFUSED:
         raise refusal_in(names)
-    return [DviFont(it.number, _name(names, it), it.size, it.design_size, it.check_sum) for it in rows[:sizes.fonts]]
+    return [
+        DviFont(it.number, _name(names, it), it.size, it.design_size, it.check_sum)
+        for it in rows[: sizes.fonts]
+    ]
 
 
 def _name(names: bytes, row: DviFontRow) -> str:
     """The name of a font."""
-    return names[row.name_start:row.name_start + row.name_size].decode("utf-8", "surrogateescape")
+    return names[row.name_start : row.name_start + row.name_size].decode("utf-8", "surrogateescape")

@@ -62,7 +62,9 @@ class FontFolder(Mapping[str, bytes]):
         return {name: found for name in wanted if (found := self._files[name]) is not None}
 
     def _names(self) -> list[str]:
-        files = {name for folder in self._folders for name in os.listdir(folder) if name.endswith(".tfm")}
+        files = {
+            name for folder in self._folders for name in os.listdir(folder) if name.endswith(".tfm")
+        }
         return sorted(it for it in (name[:-4] for name in files) if _NAME.fullmatch(it))
 
     def _look_for(self, names: list[str]) -> None:
@@ -78,7 +80,10 @@ class FontFolder(Mapping[str, bytes]):
             self._files[it] = _read(path) if path else None
 
     def _path(self, name: str) -> str | None:
-        return next((path for folder in self._folders if os.path.isfile(path := f"{folder}/{name}.tfm")), None)
+        return next(
+            (path for folder in self._folders if os.path.isfile(path := f"{folder}/{name}.tfm")),
+            None,
+        )
 
 
 def _program(name: str) -> str | None:
@@ -93,7 +98,13 @@ def _far_paths(kpsewhich: str, names: list[str]) -> dict[str, str]:
     import subprocess
 
     words = [kpsewhich, *(f"{it}.tfm" for it in names)]
-    found = subprocess.run(words, stdin=subprocess.DEVNULL, stdout=subprocess.PIPE, stderr=subprocess.DEVNULL, timeout=_SECONDS)
+    found = subprocess.run(
+        words,
+        stdin=subprocess.DEVNULL,
+        stdout=subprocess.PIPE,
+        stderr=subprocess.DEVNULL,
+        timeout=_SECONDS,
+    )
     paths = os.fsdecode(found.stdout).splitlines()
     return {os.path.basename(it).removesuffix(".tfm"): it for it in paths}
 
@@ -105,4 +116,6 @@ def _read(path: str) -> bytes:
 
 def names_in_script(script: bytes) -> list[str]:
     """The names of the fonts that a script loads."""
-    return [*dict.fromkeys(it.decode("utf-8", "surrogateescape") for it in _FONT_LINE.findall(script))]
+    return [
+        *dict.fromkeys(it.decode("utf-8", "surrogateescape") for it in _FONT_LINE.findall(script))
+    ]

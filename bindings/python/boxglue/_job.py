@@ -11,7 +11,22 @@ from typing import TYPE_CHECKING, Any, Generic, NoReturn, SupportsIndex, TypeVar
 from ._batches import Batch, added, caller, outside
 from ._commands import Commands
 from ._library import (
-    DVI_ROOM, ITEM_ROOM, TEXT_ROOM, Data, Fonts, ItemRow, ItemSizes, JobHandle, ReplyRow, Text, given_fonts, library, new_buffer, pairs_of, sized, text_of,
+    DVI_ROOM,
+    ITEM_ROOM,
+    TEXT_ROOM,
+    Data,
+    Fonts,
+    ItemRow,
+    ItemSizes,
+    JobHandle,
+    ReplyRow,
+    Text,
+    given_fonts,
+    library,
+    new_buffer,
+    pairs_of,
+    sized,
+    text_of,
 )
 from ._lists import Ends, EndT, LoadedFont, OpenBox, OpenParagraph, State
 from ._opened import BY_OPEN_LISTS, Opened, Piece, hint_of
@@ -39,6 +54,7 @@ _PRETOLERANCE = re.compile(rb"(?m)pretolerance +([+-]?\d+) *\r?$")
 
 class _Ended(Generic[EndT]):
     """The reply to the end of a list."""
+
     __slots__ = ("reply",)
 
     def __init__(self, reply: EndT) -> None:
@@ -87,7 +103,9 @@ class Job(Commands[Ok, Added, Split, Measured, Shipped]):
             fail(status)
         files: dict[str, Data] = {}
         for name, metrics in given:
-            files.setdefault(text_of(name, "the name of a font").decode("utf-8", "surrogateescape"), metrics)
+            files.setdefault(
+                text_of(name, "the name of a font").decode("utf-8", "surrogateescape"), metrics
+            )
         self._state, self._rows = State(files), (ReplyRow * 2)()
         self._batch: Batch | None = None
         # How many lines were run, and the lists that are open, whoever opened them.
@@ -136,12 +154,16 @@ class Job(Commands[Ok, Added, Split, Measured, Shipped]):
             status = library().boxglue_job_run(self._handle, *sized(text), rows, room, byref(count))
             if status not in HAS_RUN:
                 fail(status)
-            piece = Piece(text, self._lines + 1, tuple(self._opened_lists), calls, self._state.names)
+            piece = Piece(
+                text, self._lines + 1, tuple(self._opened_lists), calls, self._state.names
+            )
             self._opened_lists = piece.follow(part_of(rows, 0, count.value))
             is_bad = bool(count.value) and rows[0].kind == ReplyKind.BAD_LINE
             if b"pretolerance" in text and not is_bad:
                 for found in _PRETOLERANCE.finditer(text):
-                    if text[text.rfind(b"\n", 0, found.start()) + 1 : found.start()].split() == [b"set"]:
+                    if text[text.rfind(b"\n", 0, found.start()) + 1 : found.start()].split() == [
+                        b"set"
+                    ]:
                         self._state.pretolerance = int(found[1])
             if not is_bad:
                 self._lines += room - (not text or text.endswith(b"\n"))
@@ -173,7 +195,9 @@ class Job(Commands[Ok, Added, Split, Measured, Shipped]):
         self._check()
         count, script = c_size_t(), line.encode("ascii")
         with self._lock:
-            status = library().boxglue_job_run(self._handle, script, len(script), self._rows, 2, byref(count))
+            status = library().boxglue_job_run(
+                self._handle, script, len(script), self._rows, 2, byref(count)
+            )
             if status not in HAS_RUN:
                 fail(status)
             reply = reply_of(self._rows[0])
@@ -183,7 +207,12 @@ class Job(Commands[Ok, Added, Split, Measured, Shipped]):
         if isinstance(reply, Refused):
             lists = self._opened_lists if reply.number in BY_OPEN_LISTS else ()
             command = line.rstrip("\n")
-            raise reply.of_command(command, caller(), tuple(it.shown() for it in lists), hint_of(reply, command, self._state.names))
+            raise reply.of_command(
+                command,
+                caller(),
+                tuple(it.shown() for it in lists),
+                hint_of(reply, command, self._state.names),
+            )
         raise BoxglueError(f"the reply to {line!r} is {reply!r}")
 
     def _ok(self, line: str) -> Ok:
@@ -243,8 +272,16 @@ class Job(Commands[Ok, Added, Split, Measured, Shipped]):
             self._opened_lists.pop()
         return _Ended(reply)
 
-    def paragraph(self, pieces: str | Iterable[PieceOfParagraph], *, hyphens: Rule | None = None, encoding: Encoding | None = None, hyphenpenalty: SupportsIndex = 50,
-                  exhyphenpenalty: SupportsIndex = 50, first_word: bool = False) -> HyphenatedParagraph:
+    def paragraph(
+        self,
+        pieces: str | Iterable[PieceOfParagraph],
+        *,
+        hyphens: Rule | None = None,
+        encoding: Encoding | None = None,
+        hyphenpenalty: SupportsIndex = 50,
+        exhyphenpenalty: SupportsIndex = 50,
+        first_word: bool = False,
+    ) -> HyphenatedParagraph:
         """Sets a paragraph, whose lines may end within words as TeX's do (docs/AUTHORS.md, section 4), and adds its lines to the vertical list that is open.
 
             english = boxglue.hyphenation.Patterns.read("hyphen.tex")
@@ -277,9 +314,16 @@ class Job(Commands[Ok, Added, Split, Measured, Shipped]):
 
         self._check()
         if hyphens is not None and not callable(hyphens):
-            raise TypeError(f"hyphens must be a function from a word to places, such as hyphenation.Patterns.read(path), not {hyphens!r:.40}")
-        penalty, explicit_penalty = (number(it, -MOST_PENALTY, MOST_PENALTY, "a penalty") for it in (hyphenpenalty, exhyphenpenalty))
-        style = Style(hyphens, frozenset(getattr(hyphens, "letters", ())), encoding, penalty, explicit_penalty)
+            raise TypeError(
+                f"hyphens must be a function from a word to places, such as hyphenation.Patterns.read(path), not {hyphens!r:.40}"
+            )
+        penalty, explicit_penalty = (
+            number(it, -MOST_PENALTY, MOST_PENALTY, "a penalty")
+            for it in (hyphenpenalty, exhyphenpenalty)
+        )
+        style = Style(
+            hyphens, frozenset(getattr(hyphens, "letters", ())), encoding, penalty, explicit_penalty
+        )
         return set_paragraph(self, pieces, style, first_word)
 
     def inspect(self, box: SupportsIndex) -> Box | None:
@@ -308,13 +352,19 @@ class Job(Commands[Ok, Added, Split, Measured, Shipped]):
         with self._lock:
             while True:
                 rows, text = new_table(ItemRow, rooms[0]), new_buffer(rooms[1])
-                status = library().boxglue_job_items(self._handle, number, rows, rooms[0], text, rooms[1], byref(sizes))
+                status = library().boxglue_job_items(
+                    self._handle, number, rows, rooms[0], text, rooms[1], byref(sizes)
+                )
                 if status != Status.BUFFER_TOO_SMALL:
                     break
                 rooms = sizes.items, sizes.text
         if status != Status.ACCEPTED:
             fail(status)
-        return Box(ItemTable(part_of(rows, 0, sizes.items), ctypes.string_at(text, sizes.text)), 0) if sizes.items else None
+        return (
+            Box(ItemTable(part_of(rows, 0, sizes.items), ctypes.string_at(text, sizes.text)), 0)
+            if sizes.items
+            else None
+        )
 
     def take(self) -> bytes:
         """Takes the bytes of the DVI file that went out since the last call: pages as they were shipped, and the end of the file after `finish`.
@@ -338,7 +388,11 @@ class Job(Commands[Ok, Added, Split, Measured, Shipped]):
                     self._filled = []
                     fail(status)
                 # A buffer that was too small has nothing.
-                taken = b"".join(ctypes.string_at(buffer, size.value) for buffer, size in self._filled if size.value <= len(buffer))
+                taken = b"".join(
+                    ctypes.string_at(buffer, size.value)
+                    for buffer, size in self._filled
+                    if size.value <= len(buffer)
+                )
                 handed, self._filled = self._filled, []
             return taken
         except BaseException:

@@ -5,7 +5,19 @@ import ctypes
 import functools
 import os
 from collections.abc import Callable, Iterable, Mapping
-from ctypes import POINTER, Structure, byref, c_char, c_char_p, c_int32, c_int64, c_size_t, c_uint32, c_uint64, c_void_p
+from ctypes import (
+    POINTER,
+    Structure,
+    byref,
+    c_char,
+    c_char_p,
+    c_int32,
+    c_int64,
+    c_size_t,
+    c_uint32,
+    c_uint64,
+    c_void_p,
+)
 from typing import TYPE_CHECKING, Any, TypeAlias
 
 from ._public import public
@@ -27,11 +39,23 @@ TEXT_ROOM, DVI_ROOM, FONT_ROOM, ITEM_ROOM = 1 << 14, 1 << 16, 64, 256
 
 
 class Font(Structure):
-    _fields_ = [("name", c_char_p), ("name_size", c_size_t), ("bytes", c_char_p), ("bytes_size", c_size_t)]
+    _fields_ = [
+        ("name", c_char_p),
+        ("name_size", c_size_t),
+        ("bytes", c_char_p),
+        ("bytes_size", c_size_t),
+    ]
 
 
 class DviFontRow(Structure):
-    _fields_ = [("number", c_int32), ("size", c_int32), ("design_size", c_int32), ("check_sum", c_uint32), ("name_start", c_size_t), ("name_size", c_size_t)]
+    _fields_ = [
+        ("number", c_int32),
+        ("size", c_int32),
+        ("design_size", c_int32),
+        ("check_sum", c_uint32),
+        ("name_start", c_size_t),
+        ("name_size", c_size_t),
+    ]
 
 
 class FontSizes(Structure):
@@ -43,16 +67,35 @@ class PageRow(Structure):
 
 
 class MarkRow(Structure):
-    _fields_ = [*((name, c_uint32 if name == "kind" else c_int32) for name in ("kind", "font", "code", "h", "v", "height", "width")),
-                ("text_size", c_uint32), ("text_start", c_uint64)]
+    _fields_ = [
+        *(
+            (name, c_uint32 if name == "kind" else c_int32)
+            for name in ("kind", "font", "code", "h", "v", "height", "width")
+        ),
+        ("text_size", c_uint32),
+        ("text_start", c_uint64),
+    ]
 
 
 class MarkSizes(Structure):
-    _fields_ = [("pages", c_size_t), ("marks", c_size_t), ("text", c_size_t), ("num", c_int32), ("den", c_int32), ("mag", c_int32)]
+    _fields_ = [
+        ("pages", c_size_t),
+        ("marks", c_size_t),
+        ("text", c_size_t),
+        ("num", c_int32),
+        ("den", c_int32),
+        ("mag", c_int32),
+    ]
 
 
 class FaultRow(Structure):
-    _fields_ = [("number", c_uint32), ("cause", c_uint32), ("font", c_int32), ("place", c_uint64), ("name_size", c_size_t)]
+    _fields_ = [
+        ("number", c_uint32),
+        ("cause", c_uint32),
+        ("font", c_int32),
+        ("place", c_uint64),
+        ("name_size", c_size_t),
+    ]
 
 
 class Measure(Structure):
@@ -60,7 +103,13 @@ class Measure(Structure):
 
 
 class GlyphMetrics(Structure):
-    _fields_ = [("is_there", c_uint32), ("width", c_int32), ("height", c_int32), ("depth", c_int32), ("italic", Measure)]
+    _fields_ = [
+        ("is_there", c_uint32),
+        ("width", c_int32),
+        ("height", c_int32),
+        ("depth", c_int32),
+        ("italic", Measure),
+    ]
 
 
 class GlyphTable(Structure):
@@ -68,12 +117,23 @@ class GlyphTable(Structure):
 
 
 class FontParameters(Structure):
-    _fields_ = [("size", c_int32), ("design_size", c_int32), ("check_sum", c_uint32), *((name, c_int32) for name in ("slant", "space", "stretch", "shrink")),
-                *((name, Measure) for name in ("x_height", "quad", "extra_space"))]
+    _fields_ = [
+        ("size", c_int32),
+        ("design_size", c_int32),
+        ("check_sum", c_uint32),
+        *((name, c_int32) for name in ("slant", "space", "stretch", "shrink")),
+        *((name, Measure) for name in ("x_height", "quad", "extra_space")),
+    ]
 
 
 class StepRow(Structure):
-    _fields_ = [("character", c_uint32), ("following", c_uint32), ("kind", c_uint32), ("kern", c_int32), ("ligature", c_uint32)]
+    _fields_ = [
+        ("character", c_uint32),
+        ("following", c_uint32),
+        ("kind", c_uint32),
+        ("kern", c_int32),
+        ("ligature", c_uint32),
+    ]
 
 
 class BoxSizes(Structure):
@@ -81,9 +141,23 @@ class BoxSizes(Structure):
 
 
 class ReplyRow(Structure):
-    _fields_ = [("line", c_uint64), ("kind", c_uint32), ("refusal", c_uint32), ("cause", c_uint32), ("box_kind", c_uint32), ("box", BoxSizes), ("rest", BoxSizes),
-                ("has_rest", c_uint32), ("badness", c_uint32), ("pass_", c_uint32), ("missing", c_uint32), ("count", c_uint64), ("bytes", c_uint64),
-                ("overhang", c_int64), ("demerits", c_int64)]
+    _fields_ = [
+        ("line", c_uint64),
+        ("kind", c_uint32),
+        ("refusal", c_uint32),
+        ("cause", c_uint32),
+        ("box_kind", c_uint32),
+        ("box", BoxSizes),
+        ("rest", BoxSizes),
+        ("has_rest", c_uint32),
+        ("badness", c_uint32),
+        ("pass_", c_uint32),
+        ("missing", c_uint32),
+        ("count", c_uint64),
+        ("bytes", c_uint64),
+        ("overhang", c_int64),
+        ("demerits", c_int64),
+    ]
 
 
 class ReplySizes(Structure):
@@ -95,10 +169,26 @@ class WideDimen(Structure):
 
 
 class ItemRow(Structure):
-    _fields_ = [("level", c_uint32), ("kind", c_uint32), *((name, WideDimen) for name in ("right", "down", "set_width")),
-                *((name, c_int32) for name in ("width", "height", "depth", "shift")), ("stretch", c_int32), ("stretch_order", c_uint32), ("shrink", c_int32),
-                ("shrink_order", c_uint32), ("setting", c_uint32), ("setting_order", c_uint32), ("ratio_num", c_int64), ("ratio_den", c_int64), ("slot", c_uint32),
-                ("code", c_uint32), ("penalty", c_int32), ("running", c_uint32), ("text_start", c_uint64), ("text_size", c_uint64)]
+    _fields_ = [
+        ("level", c_uint32),
+        ("kind", c_uint32),
+        *((name, WideDimen) for name in ("right", "down", "set_width")),
+        *((name, c_int32) for name in ("width", "height", "depth", "shift")),
+        ("stretch", c_int32),
+        ("stretch_order", c_uint32),
+        ("shrink", c_int32),
+        ("shrink_order", c_uint32),
+        ("setting", c_uint32),
+        ("setting_order", c_uint32),
+        ("ratio_num", c_int64),
+        ("ratio_den", c_int64),
+        ("slot", c_uint32),
+        ("code", c_uint32),
+        ("penalty", c_int32),
+        ("running", c_uint32),
+        ("text_start", c_uint64),
+        ("text_size", c_uint64),
+    ]
 
 
 class ItemSizes(Structure):
@@ -118,14 +208,39 @@ _CALLS = {
     "list": [*_INPUT, *_GIVEN, *_OUTPUT, *_SIZE],
     "paint": [*_INPUT, *_GIVEN, *[c_uint32] * 4, *_OUTPUT, *_SIZE],
     "fonts": [*_INPUT, POINTER(DviFontRow), c_size_t, *_OUTPUT, POINTER(FontSizes)],
-    "marks": [*_INPUT, *_GIVEN, POINTER(PageRow), c_size_t, POINTER(MarkRow), c_size_t, *_OUTPUT, POINTER(MarkSizes)],
+    "marks": [
+        *_INPUT,
+        *_GIVEN,
+        POINTER(PageRow),
+        c_size_t,
+        POINTER(MarkRow),
+        c_size_t,
+        *_OUTPUT,
+        POINTER(MarkSizes),
+    ],
     "check": [*_INPUT, *_GIVEN, POINTER(FaultRow), *_OUTPUT],
-    "metrics": [*_INPUT, c_int32, POINTER(GlyphTable), POINTER(FontParameters), POINTER(StepRow), c_size_t, *_SIZE, POINTER(FaultRow)],
+    "metrics": [
+        *_INPUT,
+        c_int32,
+        POINTER(GlyphTable),
+        POINTER(FontParameters),
+        POINTER(StepRow),
+        c_size_t,
+        *_SIZE,
+        POINTER(FaultRow),
+    ],
     "job_new": [POINTER(JobHandle), *_GIVEN],
     "job_run": [POINTER(JobHandle), *_INPUT, *_REPLIES, *_SIZE],
     "job_take": [POINTER(JobHandle), *_OUTPUT, *_SIZE],
     "job_end": [POINTER(JobHandle), POINTER(ReplyRow)],
-    "job_items": [POINTER(JobHandle), c_uint32, POINTER(ItemRow), c_size_t, *_OUTPUT, POINTER(ItemSizes)],
+    "job_items": [
+        POINTER(JobHandle),
+        c_uint32,
+        POINTER(ItemRow),
+        c_size_t,
+        *_OUTPUT,
+        POINTER(ItemSizes),
+    ],
     "job_free": [POINTER(JobHandle)],
 }
 
@@ -156,13 +271,17 @@ def library() -> Any:
             raise BoxglueError(f"{why} ({error})") from error
         raise BoxglueError(f"{path} is not a library of boxglue: {error}") from error
     if number // 10_000 != 1:
-        raise BoxglueError(f"{path} has version {shown_version(number)}, and this package is for 1.x")
+        raise BoxglueError(
+            f"{path} has version {shown_version(number)}, and this package is for 1.x"
+        )
     # After the version, so that an older library is named as one.
     for name, types in _CALLS.items():
         try:
             call = getattr(found, f"boxglue_{name}")
         except AttributeError:
-            raise BoxglueError(f"{path} has version {shown_version(number)}, and lacks boxglue_{name}: it is older than this package") from None
+            raise BoxglueError(
+                f"{path} has version {shown_version(number)}, and lacks boxglue_{name}: it is older than this package"
+            ) from None
         call.argtypes, call.restype = types, None if name == "job_free" else c_uint32
     return found
 
@@ -208,7 +327,11 @@ def metrics_data(given: Data) -> bytes:
 
 def text_of(given: Text, what: str) -> bytes:
     """The bytes of a text, a `str` as UTF-8."""
-    return given.encode("utf-8", "surrogateescape") if isinstance(given, str) else data_of(given, what, "str or bytes")
+    return (
+        given.encode("utf-8", "surrogateescape")
+        if isinstance(given, str)
+        else data_of(given, what, "str or bytes")
+    )
 
 
 def sized(data: bytes) -> tuple[bytes, int]:
@@ -230,7 +353,9 @@ def pairs_of(given: Fonts) -> list[tuple[Text, Data]]:
         try:
             name, metrics = pair
         except (TypeError, ValueError):
-            raise TypeError(f"a font must be a pair of its name and the bytes of its metric file, not {pair!r:.40}") from None
+            raise TypeError(
+                f"a font must be a pair of its name and the bytes of its metric file, not {pair!r:.40}"
+            ) from None
         pairs.append((name, metrics))
     return pairs
 

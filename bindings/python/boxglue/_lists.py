@@ -24,7 +24,8 @@ class Ends(Protocol[_Ended]):
     """What gives the reply to the end of a list, once there is one."""
 
     @property
-    def reply(self) -> _Ended: ...
+    def reply(self) -> _Ended:
+        ...
 
 
 @public
@@ -36,6 +37,7 @@ class LoadedFont:
         name: Its name.
         size: Its size in scaled points; None is its design size.
     """
+
     __slots__ = "slot", "name", "size"
 
     def __init__(self, slot: int, name: str, size: int | None) -> None:
@@ -68,16 +70,22 @@ class State:
         if self.is_left:
             lists = ", ".join(it.form for it in self.lists) or "none"
             ends = 'end each by job.commands("end\\n"), then call job.recover(); or give recover() those that go on'
-            raise NeedsRecovery(f"an exception left lists open (typed calls opened: {lists}): {ends}")
+            raise NeedsRecovery(
+                f"an exception left lists open (typed calls opened: {lists}): {ends}"
+            )
 
     def loaded(self, name: str, size: int | None) -> LoadedFont | None:
         """The font that was loaded at this size."""
-        return next((it for it in self.fonts.values() if it and (it.name, it.size) == (name, size)), None)
+        return next(
+            (it for it in self.fonts.values() if it and (it.name, it.size) == (name, size)), None
+        )
 
     def own(self, font: LoadedFont) -> LoadedFont:
         """A font, which must be one of this job: by another job's font, texts would have the wrong metrics."""
         known = self.fonts.get(font.slot)
-        if known is not font and (known is None or (known.name, known.size) != (font.name, font.size)):
+        if known is not font and (
+            known is None or (known.name, known.size) != (font.name, font.size)
+        ):
             raise BoxglueError(f"{font!r} is not a font of this job: load it in this job")
         return font
 
@@ -101,9 +109,11 @@ class State:
 
 class Typed(Protocol):
     """What a list and a register need of a job or a batch."""
+
     _state: State
 
-    def _end(self, kind: type[EndT]) -> Ends[EndT]: ...
+    def _end(self, kind: type[EndT]) -> Ends[EndT]:
+        ...
 
 
 @public
@@ -115,6 +125,7 @@ class Register:
     Attributes:
         number: Its number, 0 to 32,767.
     """
+
     __slots__ = "number", "_state"
 
     def __init__(self, number: int, state: State) -> None:
@@ -153,6 +164,7 @@ class OpenList(Generic[EndT]):
         form: "hbox", "vbox", "vtop" or "par".
         is_open: Whether it is open.
     """
+
     __slots__ = "form", "is_open", "_typed", "_ended"
     _KIND: type[EndT]
 
@@ -175,7 +187,9 @@ class OpenList(Generic[EndT]):
         state = self._typed._state
         state.check()
         if not state.lists or state.lists[-1] is not self:
-            inner = f"{state.lists[-1]!r} is the innermost list" if self.is_open else "it is not open"
+            inner = (
+                f"{state.lists[-1]!r} is the innermost list" if self.is_open else "it is not open"
+            )
             raise BoxglueError(f"{self!r} cannot be ended: {inner}")
         self._ended = self._typed._end(self._KIND)
         state.lists.pop()
@@ -191,7 +205,9 @@ class OpenList(Generic[EndT]):
         """
         if self.is_open:
             found = "lines" if self.form == "par" else "sizes"
-            raise BoxglueError(f"this {self.form} is open: read its {found} after its `with` or `end`")
+            raise BoxglueError(
+                f"this {self.form} is open: read its {found} after its `with` or `end`"
+            )
         if self._ended is None:
             raise BoxglueError(f"{self!r} has no reply: typed calls did not end it")
         return self._ended.reply
@@ -199,7 +215,12 @@ class OpenList(Generic[EndT]):
     def __enter__(self: _Same) -> _Same:
         return self
 
-    def __exit__(self, kind: type[BaseException] | None, error: BaseException | None, trace: TracebackType | None) -> None:
+    def __exit__(
+        self,
+        kind: type[BaseException] | None,
+        error: BaseException | None,
+        trace: TracebackType | None,
+    ) -> None:
         if not self.is_open:
             return
         if kind is not None:
@@ -215,6 +236,7 @@ class OpenList(Generic[EndT]):
 @public
 class OpenBox(OpenList[Packed]):
     """The list of a box (see OpenList). After its end it has the badness of the box, and its sizes in scaled points."""
+
     __slots__ = ()
     _KIND = Packed
 
@@ -242,6 +264,7 @@ class OpenBox(OpenList[Packed]):
 @public
 class OpenParagraph(OpenList[Paragraph]):
     """The list of a paragraph (see OpenList). After its end it has the lines, the pass, the overhang and the demerits."""
+
     __slots__ = ()
     _KIND = Paragraph
 

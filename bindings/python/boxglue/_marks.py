@@ -27,6 +27,7 @@ _POINTS_NUM, _POINTS_DEN = 25400000, 473628672
 @public
 class MarkKind(enum.IntEnum):
     """The kind of a mark in a row of `Marks.rows`."""
+
     GLYPH = 1
     RULE = 2
     SPECIAL = 3
@@ -36,6 +37,7 @@ class MarkKind(enum.IntEnum):
 @dataclass(frozen=True, slots=True)
 class Glyph:
     """A character of a font, with its reference point at (h, v), and its width by the metric file."""
+
     h: int
     v: int
     font: int
@@ -47,6 +49,7 @@ class Glyph:
 @dataclass(frozen=True, slots=True)
 class Rule:
     """A black rectangle, with its lower left corner at (h, v)."""
+
     h: int
     v: int
     height: int
@@ -57,6 +60,7 @@ class Rule:
 @dataclass(frozen=True, slots=True)
 class Special:
     """A special at (h, v), and its text."""
+
     h: int
     v: int
     text: bytes
@@ -69,6 +73,7 @@ Mark = Glyph | Rule | Special
 @dataclass(frozen=True, slots=True)
 class Units:
     """The units of a file: one is num / den times 10^-7 m, enlarged by mag / 1000."""
+
     num: int
     den: int
     mag: int
@@ -98,7 +103,7 @@ class Marks(Table[Mark]):
             return Glyph(row.h, row.v, row.font, row.code, row.width)
         if kind == MarkKind.RULE:
             return Rule(row.h, row.v, row.height, row.width)
-        return Special(row.h, row.v, self._dvi[row.text_start:row.text_start + row.text_size])
+        return Special(row.h, row.v, self._dvi[row.text_start : row.text_start + row.text_size])
 
     def tuples(self) -> Iterator[tuple[int, ...]]:
         """Walks over the rows as tuples of nine numbers, which is quicker than over marks.
@@ -113,6 +118,7 @@ class Marks(Table[Mark]):
 @dataclass(frozen=True, slots=True)
 class Page:
     """A page: its ten counts, and its marks."""
+
     counts: tuple[int, ...]
     marks: Marks
 
@@ -126,13 +132,14 @@ class Pages(Table[Page]):
         self._marks = marks
 
     def _item(self, row: Any) -> Page:
-        return Page(tuple(row.counts), self._marks[row.first_mark:row.first_mark + row.marks])
+        return Page(tuple(row.counts), self._marks[row.first_mark : row.first_mark + row.marks])
 
 
 @public
 @dataclass(frozen=True, slots=True)
 class Document:
     """The pages of a DVI file, all marks of all pages, one page after the other, and the units."""
+
     pages: Pages
     marks: Marks
     units: Units
@@ -159,8 +166,14 @@ def marks(dvi: Data, fonts: Fonts = ()) -> Document:
     # A mark has at least a byte of the file, so that these rooms suffice for files of up to 16 MiB, and one call is enough.
     rooms = min(len(data) // _SHORTEST_PAGE, _MOST_ROOM), min(len(data), _MOST_ROOM), _TEXT_ROOM
     while True:
-        pages, rows, text = new_table(PageRow, rooms[0]), new_table(MarkRow, rooms[1]), new_buffer(rooms[2])
-        status = library().boxglue_marks(*words, pages, rooms[0], rows, rooms[1], text, rooms[2], byref(sizes))
+        pages, rows, text = (
+            new_table(PageRow, rooms[0]),
+            new_table(MarkRow, rooms[1]),
+            new_buffer(rooms[2]),
+        )
+        status = library().boxglue_marks(
+            *words, pages, rooms[0], rows, rooms[1], text, rooms[2], byref(sizes)
+        )
         if status != Status.BUFFER_TOO_SMALL:
             break
         rooms = sizes.pages, sizes.marks, sizes.text
@@ -169,4 +182,6 @@ def marks(dvi: Data, fonts: Fonts = ()) -> Document:
     if status == Status.REFUSED:
         raise refusal_of_file(ctypes.string_at(text, sizes.text), words)
     found = Marks(part_of(rows, 0, sizes.marks), data)
-    return Document(Pages(part_of(pages, 0, sizes.pages), found), found, Units(sizes.num, sizes.den, sizes.mag))
+    return Document(
+        Pages(part_of(pages, 0, sizes.pages), found), found, Units(sizes.num, sizes.den, sizes.mag)
+    )

@@ -31,7 +31,9 @@ _ROW = ctypes.sizeof(ReplyRow)
 
 def line_of(code: CodeType, place: int) -> tuple[str, int]:
     """The file and the line of an instruction."""
-    lines = (line for first, end, line in code.co_lines() if first <= place < end and line is not None)
+    lines = (
+        line for first, end, line in code.co_lines() if first <= place < end and line is not None
+    )
     return code.co_filename, next(lines, code.co_firstlineno)
 
 
@@ -50,6 +52,7 @@ class Opened(NamedTuple):
 class Calls:
     """What a batch knows of its commands: the instruction of each one's call, as the code and the place in it; and the lines that open a list, with its form, or end one,
     with None."""
+
     __slots__ = "codes", "places", "lists"
 
     def __init__(self) -> None:
@@ -67,9 +70,20 @@ class Piece:
     """A piece of a script that was run: whole lines, of which the first has a number, the lists that were open before, and the typed calls that it came from."""
 
     def __init__(
-        self, text: bytes, first: int = 1, before: Sequence[Opened] = (), calls: Calls | None = None, fonts: tuple[str, ...] | None = None
+        self,
+        text: bytes,
+        first: int = 1,
+        before: Sequence[Opened] = (),
+        calls: Calls | None = None,
+        fonts: tuple[str, ...] | None = None,
     ) -> None:
-        self._text, self._first, self._before, self._calls, self._fonts = text, first, before, calls, fonts
+        self._text, self._first, self._before, self._calls, self._fonts = (
+            text,
+            first,
+            before,
+            calls,
+            fonts,
+        )
         self._rows: Any = (ReplyRow * 0)()
 
     @functools.cached_property
@@ -123,13 +137,23 @@ class Piece:
     def _numbers(self) -> list[int]:
         """The lines of the replies."""
         words = _ROW // 8
-        numbers: list[int] = (c_uint64 * (len(self._rows) * words)).from_buffer(self._rows)[::words] if self._rows else []
+        numbers: list[int] = (
+            (c_uint64 * (len(self._rows) * words)).from_buffer(self._rows)[::words]
+            if self._rows
+            else []
+        )
         return numbers
 
     @functools.cached_property
     def _at_refusals(self) -> dict[int, list[Opened]]:
         """The lists that were open when a command was refused because of them, by the line of that command."""
-        return self._walk([row.line for row in self._rows if row.kind == _REFUSED and row.refusal in BY_OPEN_LISTS])[0]
+        return self._walk(
+            [
+                row.line
+                for row in self._rows
+                if row.kind == _REFUSED and row.refusal in BY_OPEN_LISTS
+            ]
+        )[0]
 
     def explain(self, refused: Refused) -> Refused:
         """The refusal with its command, and with the open lists where they are the reason."""
@@ -142,10 +166,21 @@ class Piece:
         command = self._lines[line - self._first].strip(b" \r").decode("latin-1")
         caller = self._caller(line - self._first)
         where = line_of(*caller) if caller else None
-        return refused.of_command(command, where, tuple(it.shown() for it in lists), hint_of(refused, command, self._fonts))
+        return refused.of_command(
+            command,
+            where,
+            tuple(it.shown() for it in lists),
+            hint_of(refused, command, self._fonts),
+        )
 
     def __reduce__(self) -> tuple[Any, ...]:
-        return _piece_of, (self._text, self._first, [it.shown() for it in self._before], bytes(self._rows), self._fonts)
+        return _piece_of, (
+            self._text,
+            self._first,
+            [it.shown() for it in self._before],
+            bytes(self._rows),
+            self._fonts,
+        )
 
 
 def hint_of(refused: Refused, command: str, fonts: tuple[str, ...] | None) -> str:
@@ -158,7 +193,13 @@ def hint_of(refused: Refused, command: str, fonts: tuple[str, ...] | None) -> st
     return f"the job's fonts: {', '.join(fonts[:_SHOWN_FONTS])}{more}"
 
 
-def _piece_of(text: bytes, first: int, before: Sequence[ListOpening], rows: bytes, fonts: tuple[str, ...] | None) -> Piece:
+def _piece_of(
+    text: bytes,
+    first: int,
+    before: Sequence[ListOpening],
+    rows: bytes,
+    fonts: tuple[str, ...] | None,
+) -> Piece:
     """A piece that was copied or pickled, without the instructions of typed calls."""
     piece = Piece(text, first, [Opened(it.form, it.line, None) for it in before], None, fonts)
     piece.follow((ReplyRow * (len(rows) // _ROW)).from_buffer_copy(rows))

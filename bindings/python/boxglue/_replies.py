@@ -13,11 +13,43 @@ from ._tables import Table
 _BOX_KINDS: tuple[Literal["hbox"], Literal["vbox"]] = "hbox", "vbox"
 # The names of refusals and of their causes by their numbers (docs/REFUSALS.md; docs/FORMATS.md, sections 7, 9 and 2).
 _REFUSALS = {
-    1: "OutOfMemory", 2: "BadScript", 3: "DimensionTooLarge", 4: "NoFont", 5: "BadTfm", 6: "SlotTaken", 7: "NoOpenList", 8: "WrongMode", 9: "WrongKind",
-    10: "ListTooLong", 11: "TooDeep", 12: "InfiniteShrink", 13: "TooManyBreaks", 14: "HugePage", 15: "TooManyPages", 16: "TooMuchShipped", 17: "ListsOpen",
-    18: "Device", 19: "JobOver", 20: "BadDvi", 21: "VoidBox", 22: "TooMuchSpecial",
+    1: "OutOfMemory",
+    2: "BadScript",
+    3: "DimensionTooLarge",
+    4: "NoFont",
+    5: "BadTfm",
+    6: "SlotTaken",
+    7: "NoOpenList",
+    8: "WrongMode",
+    9: "WrongKind",
+    10: "ListTooLong",
+    11: "TooDeep",
+    12: "InfiniteShrink",
+    13: "TooManyBreaks",
+    14: "HugePage",
+    15: "TooManyPages",
+    16: "TooMuchShipped",
+    17: "ListsOpen",
+    18: "Device",
+    19: "JobOver",
+    20: "BadDvi",
+    21: "VoidBox",
+    22: "TooMuchSpecial",
 }
-_DVI_CAUSES = "", "Trailer", "Version", "Opcode", "Pointer", "Count", "Preamble", "Truncated", "Stack", "Font", "Glyph", "Range"
+_DVI_CAUSES = (
+    "",
+    "Trailer",
+    "Version",
+    "Opcode",
+    "Pointer",
+    "Count",
+    "Preamble",
+    "Truncated",
+    "Stack",
+    "Font",
+    "Glyph",
+    "Range",
+)
 _METRIC_CAUSES = "", "TooShort", "Counts", "DesignSize", "CharInfo", "FixWord", "LigKern"
 _LINE_CAUSES = "", "Byte", "Word", "Missing", "Extra", "Number", "Dimension", "Name"
 
@@ -25,6 +57,7 @@ _LINE_CAUSES = "", "Byte", "Word", "Missing", "Extra", "Number", "Dimension", "N
 @public
 class ReplyKind(enum.IntEnum):
     """The kind of a reply in a row of `Replies.rows`."""
+
     OK = 0
     REFUSED = 1
     BAD_LINE = 2
@@ -44,6 +77,7 @@ class ReplyKind(enum.IntEnum):
 @dataclass(frozen=True, slots=True)
 class Sizes:
     """The sizes of a box."""
+
     width: int
     height: int
     depth: int
@@ -56,6 +90,7 @@ class Sizes:
 @dataclass(frozen=True, slots=True)
 class Ok:
     """The command was done, and has nothing to report."""
+
     line: int
 
     def __str__(self) -> str:
@@ -66,6 +101,7 @@ class Ok:
 @dataclass(frozen=True, slots=True)
 class Packed:
     """A list was packed into a box. Its badness is 0 to 10,000, or 1,000,000 if it is overfull."""
+
     line: int
     width: int
     height: int
@@ -80,6 +116,7 @@ class Packed:
 @dataclass(frozen=True, slots=True)
 class Measured:
     """A box was measured: an "hbox", or a "vbox", which may be a vtop. If the register is "void", all sizes are 0."""
+
     line: int
     kind: Literal["hbox", "vbox", "void"]
     width: int
@@ -95,18 +132,22 @@ class Measured:
 @dataclass(frozen=True, slots=True)
 class Added:
     """Items were added to the list. `missing` counts the characters of a text that the font lacks, up to 2^32 - 1; it is None for other items."""
+
     line: int
     items: int
     missing: int | None = None
 
     def __str__(self) -> str:
-        return f"{self.line}: added {self.items}" + ("" if self.missing is None else f" missing {self.missing}")
+        return f"{self.line}: added {self.items}" + (
+            "" if self.missing is None else f" missing {self.missing}"
+        )
 
 
 @public
 @dataclass(frozen=True, slots=True)
 class Paragraph:
     """A paragraph was broken into lines, by one of the passes 1 to 3. `overhang` is by how much they are overfull. An empty paragraph has 0 four times."""
+
     line: int
     lines: int
     deciding_pass: int
@@ -121,6 +162,7 @@ class Paragraph:
 @dataclass(frozen=True, slots=True)
 class Split:
     """A vertical box was split. `badness` is the front's. `rest` is None if nothing is left, and `front` is None if the register was void."""
+
     line: int
     front: Sizes | None
     badness: int
@@ -136,6 +178,7 @@ class Split:
 @dataclass(frozen=True, slots=True)
 class Shipped:
     """A page was shipped. `pages` is the number of pages so far."""
+
     line: int
     pages: int
 
@@ -147,6 +190,7 @@ class Shipped:
 @dataclass(frozen=True, slots=True)
 class End:
     """The job was ended. Its file has so many pages and bytes."""
+
     pages: int
     bytes: int
 
@@ -166,11 +210,18 @@ def _refused(row: Any) -> Refused:
 
 
 def _bad_line(row: Any) -> Refused:
-    return Refused(_REFUSALS[row.refusal], row.refusal, None, f"{row.line} {_LINE_CAUSES[row.cause]}")
+    return Refused(
+        _REFUSALS[row.refusal], row.refusal, None, f"{row.line} {_LINE_CAUSES[row.cause]}"
+    )
 
 
 def _split(row: Any) -> Split:
-    return Split(row.line, Sizes(*_sizes(row.box)), row.badness, Sizes(*_sizes(row.rest)) if row.has_rest else None)
+    return Split(
+        row.line,
+        Sizes(*_sizes(row.box)),
+        row.badness,
+        Sizes(*_sizes(row.rest)) if row.has_rest else None,
+    )
 
 
 def reply_of(row: Any) -> Reply:
@@ -178,7 +229,10 @@ def reply_of(row: Any) -> Reply:
     return _REPLIES[row.kind](row)
 
 
-_REFUSED: dict[int, Callable[[Any], Refused]] = {ReplyKind.REFUSED: _refused, ReplyKind.BAD_LINE: _bad_line}
+_REFUSED: dict[int, Callable[[Any], Refused]] = {
+    ReplyKind.REFUSED: _refused,
+    ReplyKind.BAD_LINE: _bad_line,
+}
 _REPLIES: dict[int, Callable[[Any], Reply]] = {
     **_REFUSED,
     ReplyKind.OK: lambda row: Ok(row.line),
@@ -187,7 +241,9 @@ _REPLIES: dict[int, Callable[[Any], Reply]] = {
     ReplyKind.MEASURED_VOID: lambda row: Measured(row.line, "void", 0, 0, 0),
     ReplyKind.SHAPED: lambda row: Added(row.line, row.count, row.missing),
     ReplyKind.ADDED: lambda row: Added(row.line, row.count),
-    ReplyKind.PARAGRAPH: lambda row: Paragraph(row.line, row.count, row.pass_, row.overhang, row.demerits),
+    ReplyKind.PARAGRAPH: lambda row: Paragraph(
+        row.line, row.count, row.pass_, row.overhang, row.demerits
+    ),
     ReplyKind.SPLIT: _split,
     ReplyKind.SPLIT_VOID: lambda row: Split(row.line, None, 0, None),
     ReplyKind.SHIPPED: lambda row: Shipped(row.line, row.count),
@@ -200,7 +256,11 @@ def _answer(reply: Reply) -> str:
     if not isinstance(reply, Refused):
         return str(reply)
     said = f"refused {reply.number} {reply.name} {reply.detail}".rstrip()
-    return said if reply.name == "BadScript" else f"{'end' if reply.line is None else reply.line}: {said}"
+    return (
+        said
+        if reply.name == "BadScript"
+        else f"{'end' if reply.line is None else reply.line}: {said}"
+    )
 
 
 @public
@@ -222,7 +282,11 @@ class Replies(Table[Reply]):
     @property
     def refusals(self) -> list[Refused]:
         """The refusals among them, in order, each with its command."""
-        return [self._piece.explain(_REFUSED[row.kind](row)) for row in self._rows if row.kind in _REFUSED]
+        return [
+            self._piece.explain(_REFUSED[row.kind](row))
+            for row in self._rows
+            if row.kind in _REFUSED
+        ]
 
     @property
     def answers_text(self) -> str:

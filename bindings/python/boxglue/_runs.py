@@ -8,7 +8,18 @@ from dataclasses import dataclass, field
 from typing import TypeVar
 
 from ._fonts import FontFolder, names_in_script
-from ._library import DVI_ROOM, Fonts, ReplyRow, ReplySizes, Text, given_fonts, library, new_buffer, sized, text_of
+from ._library import (
+    DVI_ROOM,
+    Fonts,
+    ReplyRow,
+    ReplySizes,
+    Text,
+    given_fonts,
+    library,
+    new_buffer,
+    sized,
+    text_of,
+)
 from ._opened import Piece
 from ._public import public
 from ._replies import Replies
@@ -20,6 +31,7 @@ HAS_RUN = Status.ACCEPTED, Status.REFUSED, Status.REFUSED_MEMORY
 
 class _Answered:
     """What has replies."""
+
     replies: Replies
     accepted: bool
 
@@ -62,6 +74,7 @@ class Run(_Answered):
 
     If no page was shipped, `dvi` is empty. If the end was refused, `dvi` is not a whole file. A script with a bad line has one reply, and its `dvi` is empty.
     """
+
     replies: Replies
     dvi: bytes = field(repr=False)
     accepted: bool
@@ -71,6 +84,7 @@ class Run(_Answered):
 @dataclass(frozen=True)
 class Answers(_Answered):
     """The replies to the commands of a piece, or to the end of a job, and whether everything was accepted."""
+
     replies: Replies
     accepted: bool
 
@@ -91,12 +105,16 @@ def run(script: Text, fonts: Fonts = ()) -> Run:
         BadFontName: The name of a font does not have 1 to 255 bytes.
     """
     text, sizes = text_of(script, "a script"), ReplySizes()
-    given = given_fonts(fonts.choose(names_in_script(text)) if isinstance(fonts, FontFolder) else fonts)
+    given = given_fonts(
+        fonts.choose(names_in_script(text)) if isinstance(fonts, FontFolder) else fonts
+    )
     # A reply to each line and one to the end. The file is rarely longer than two times the script; where it is, the script is run again.
     rooms = text.count(b"\n") + 2, max(DVI_ROOM, 2 * len(text))
     while True:
         rows, dvi = new_table(ReplyRow, rooms[0]), new_buffer(rooms[1])
-        status = library().boxglue_run_replies(*sized(text), *given, rows, rooms[0], dvi, rooms[1], byref(sizes))
+        status = library().boxglue_run_replies(
+            *sized(text), *given, rows, rooms[0], dvi, rooms[1], byref(sizes)
+        )
         if status != Status.BUFFER_TOO_SMALL:
             break
         rooms = sizes.replies, sizes.dvi
@@ -104,7 +122,11 @@ def run(script: Text, fonts: Fonts = ()) -> Run:
         fail(status)
     piece = Piece(text)
     piece.follow(part_of(rows, 0, sizes.replies))
-    return Run(replies_of(rows, sizes.replies, piece), ctypes.string_at(dvi, sizes.dvi), status == Status.ACCEPTED)
+    return Run(
+        replies_of(rows, sizes.replies, piece),
+        ctypes.string_at(dvi, sizes.dvi),
+        status == Status.ACCEPTED,
+    )
 
 
 def replies_of(table: ctypes.Array[ReplyRow], count: int, piece: Piece) -> Replies:

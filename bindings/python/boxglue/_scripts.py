@@ -21,6 +21,7 @@ _NO_CHARACTER = re.compile(r"[^ -~]")
 @public
 class Glue(NamedTuple):
     """Glue, as a value of a parameter: its width, stretch and shrink. Stretch and shrink are scaled points, or an amount and an order, such as (1, "fil")."""
+
     width: SupportsIndex
     plus: Stretch = 0
     minus: Stretch = 0
@@ -46,7 +47,9 @@ def quote(text: str | bytes) -> str:
     if not (found.isascii() and found.isprintable()):
         bad = _NO_CHARACTER.search(found)
         if bad:
-            raise BadCharacter(found, bad.start(), f"scripts have only the characters 32 to 126{_remedy(bad[0])}")
+            raise BadCharacter(
+                found, bad.start(), f"scripts have only the characters 32 to 126{_remedy(bad[0])}"
+            )
     return found
 
 
@@ -57,7 +60,11 @@ def one_line(character: str) -> str:
 
 def _remedy(character: str) -> str:
     """What a message adds for a character that scripts cannot have."""
-    letters = "; `text` and `paragraph` take others by encoding=boxglue.T1, with a font that has them" if character.isprintable() else ""
+    letters = (
+        "; `text` and `paragraph` take others by encoding=boxglue.T1, with a font that has them"
+        if character.isprintable()
+        else ""
+    )
     return one_line(character) or letters
 
 
@@ -83,12 +90,16 @@ def number(given: SupportsIndex, least: int, most: int, what: str) -> int:
 
 def dimension(given: SupportsIndex) -> int:
     """A dimension that fits."""
-    if type(given) is int and -1_073_741_823 <= given <= 1_073_741_823:  # as for GREATEST below, and quicker
+    if (
+        type(given) is int and -1_073_741_823 <= given <= 1_073_741_823
+    ):  # as for GREATEST below, and quicker
         return given
     try:
         found = int(index(given))
     except TypeError:
-        raise TypeError(f"a dimension must be a whole number of scaled points, as boxglue.pt gives it, not {given!r:.40}") from None
+        raise TypeError(
+            f"a dimension must be a whole number of scaled points, as boxglue.pt gives it, not {given!r:.40}"
+        ) from None
     if -GREATEST <= found <= GREATEST:
         return found
     raise ValueError(f"too large for a dimension: {found:,} scaled points")
@@ -99,7 +110,9 @@ def length(given: SupportsIndex) -> str:
     return f"{dimension(given)}sp"
 
 
-def sizes_of_rule(width: SupportsIndex | None, height: SupportsIndex | None, depth: SupportsIndex | None) -> str:
+def sizes_of_rule(
+    width: SupportsIndex | None, height: SupportsIndex | None, depth: SupportsIndex | None
+) -> str:
     """The sizes of a rule. None is a running size."""
     return " ".join(["*" if it is None else length(it) for it in (width, height, depth)])
 
@@ -115,7 +128,9 @@ def _stretch(given: Stretch, what: str) -> str:
     """A stretch or a shrink."""
     if not isinstance(given, tuple):
         if not hasattr(given, "__index__"):
-            raise TypeError(f'{what} must be scaled points, or an amount and an order such as (1, "fil"), not {given!r:.40}')
+            raise TypeError(
+                f'{what} must be scaled points, or an amount and an order such as (1, "fil"), not {given!r:.40}'
+            )
         return f"{dimension(given)}sp"
     amount, order = given
     if order not in ORDERS:
@@ -143,11 +158,15 @@ def name_of_font(given: str) -> str:
     if not isinstance(given, str):
         raise TypeError(f"the name of a font must be str, not {type(given).__name__}")
     if not _NAME.fullmatch(given):
-        raise ValueError(f"the name of a font in a script must be 1 to 255 letters, digits, -, _ and ., not {given!r:.300}")
+        raise ValueError(
+            f"the name of a font in a script must be 1 to 255 letters, digits, -, _ and ., not {given!r:.300}"
+        )
     return given
 
 
-def target(to: SupportsIndex | None, spread: SupportsIndex | None, into: SupportsIndex | None) -> str:
+def target(
+    to: SupportsIndex | None, spread: SupportsIndex | None, into: SupportsIndex | None
+) -> str:
     """What follows the form of a box that is opened."""
     if to is not None and spread is not None:
         raise TypeError("a box has the size `to` or `spread`, not both")

@@ -13,6 +13,7 @@ Form: TypeAlias = Literal["hbox", "vbox", "vtop", "par"]
 @public
 class Status(enum.IntEnum):
     """The statuses of the library's calls. The calls of this package return results instead, and raise an exception if there is none."""
+
     ACCEPTED = 0
     REFUSED = 1
     OUT_OF_MEMORY = 2
@@ -60,6 +61,7 @@ class ListOpening(NamedTuple):
         line: The line of this command: in the script, or among all commands of the job.
         caller: The file and the line of the call that sent it; None of a script.
     """
+
     form: Form
     line: int
     caller: tuple[str, int] | None = None
@@ -88,9 +90,25 @@ class Refused(BoxglueError):
         hint: What else its text says, such as which fonts the job has after "NoFont"; else "".
     """
 
-    def __init__(self, name: str, number: int, line: int | None = None, detail: str = "", command: str | None = None,
-                 caller: tuple[str, int] | None = None, open_lists: tuple[ListOpening, ...] = (), hint: str = "") -> None:
-        self.name, self.number, self.detail, self.command, self.caller, self.open_lists = name, number, detail, command, caller, open_lists
+    def __init__(
+        self,
+        name: str,
+        number: int,
+        line: int | None = None,
+        detail: str = "",
+        command: str | None = None,
+        caller: tuple[str, int] | None = None,
+        open_lists: tuple[ListOpening, ...] = (),
+        hint: str = "",
+    ) -> None:
+        self.name, self.number, self.detail, self.command, self.caller, self.open_lists = (
+            name,
+            number,
+            detail,
+            command,
+            caller,
+            open_lists,
+        )
         self.hint = hint
         where, _, cause = detail.rpartition(" ")
         self.line = int(where) if name == "BadScript" else line
@@ -110,7 +128,11 @@ class Refused(BoxglueError):
         super().__init__(said)
 
     def of_command(
-        self, command: str | None, caller: tuple[str, int] | None, open_lists: tuple[ListOpening, ...] = (), hint: str = ""
+        self,
+        command: str | None,
+        caller: tuple[str, int] | None,
+        open_lists: tuple[ListOpening, ...] = (),
+        hint: str = "",
     ) -> Refused:
         """Returns the same refusal with its command, the place of its call, the open lists, and a hint.
 
@@ -148,7 +170,9 @@ class BadCharacter(BoxglueError, ValueError):
 
     def __init__(self, text: str, place: int, why: str) -> None:
         self.text, self.place, self.why = text, place, why
-        super().__init__(f"{text[place]!r} (U+{ord(text[place]):04X}) at {place} of {text[max(place - 20, 0):place + 20]!r}: {why}")
+        super().__init__(
+            f"{text[place]!r} (U+{ord(text[place]):04X}) at {place} of {text[max(place - 20, 0):place + 20]!r}: {why}"
+        )
 
     def __reduce__(self) -> tuple[type[BadCharacter], tuple[str, int, str]]:
         return type(self), (self.text, self.place, self.why)
@@ -190,7 +214,11 @@ class AnswersLost(BoxglueError, MemoryError):
 
 
 _ERRORS: dict[int, type[BoxglueError]] = {
-    Status.OUT_OF_MEMORY: OutOfMemory, Status.BAD_FONT_NAME: BadFontName, Status.NO_SUCH_PAGE: NoSuchPage, Status.OUT_OF_RANGE: OutOfRange, Status.NO_JOB: NoJob,
+    Status.OUT_OF_MEMORY: OutOfMemory,
+    Status.BAD_FONT_NAME: BadFontName,
+    Status.NO_SUCH_PAGE: NoSuchPage,
+    Status.OUT_OF_RANGE: OutOfRange,
+    Status.NO_JOB: NoJob,
     Status.ANSWERS_LOST: AnswersLost,
 }
 
@@ -198,4 +226,6 @@ _ERRORS: dict[int, type[BoxglueError]] = {
 def fail(status: int) -> NoReturn:
     """Raises what a status means that has no result."""
     # A job of this package always has a handle: it has no job once it is closed.
-    raise _ERRORS.get(status, BoxglueError)("the job is closed" if status == Status.NO_JOB else Status(status).text)
+    raise _ERRORS.get(status, BoxglueError)(
+        "the job is closed" if status == Status.NO_JOB else Status(status).text
+    )

@@ -54,16 +54,22 @@ class Table(Sequence[Item]):
         return len(self._rows)
 
     @overload
-    def __getitem__(self, index: int) -> Item: ...
+    def __getitem__(self, index: int) -> Item:
+        ...
 
     @overload
-    def __getitem__(self: _Same, index: slice) -> _Same: ...
+    def __getitem__(self: _Same, index: slice) -> _Same:
+        ...
 
     def __getitem__(self, index: int | slice) -> Any:
         if not isinstance(index, slice):
             return self._item(self._rows[index])
         places = range(len(self))[index]
-        rows = part_of(self._rows, places.start, len(places)) if places.step == 1 else (self._rows._type_ * len(places))(*self._rows[index])
+        rows = (
+            part_of(self._rows, places.start, len(places))
+            if places.step == 1
+            else (self._rows._type_ * len(places))(*self._rows[index])
+        )
         return type(self)(rows, *self._beside)
 
     def __iter__(self) -> Iterator[Item]:
@@ -85,6 +91,8 @@ class Table(Sequence[Item]):
         return f"<{type(self).__name__}: {len(self)}>"
 
 
-def _copy_of(kind: type[Table[Any]], row: type[ctypes.Structure], data: bytes, *beside: object) -> Table[Any]:
+def _copy_of(
+    kind: type[Table[Any]], row: type[ctypes.Structure], data: bytes, *beside: object
+) -> Table[Any]:
     """The table with the bytes of its rows."""
     return kind((row * (len(data) // ctypes.sizeof(row))).from_buffer_copy(data), *beside)

@@ -3,6 +3,7 @@ import sys
 
 import boxglue
 
+
 def measure(value):
     """A number, or "unfit"."""
     return "unfit" if value is None else str(value)

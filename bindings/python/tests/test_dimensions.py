@@ -19,22 +19,49 @@ class Dimensions(unittest.TestCase):
             self.assertEqual(boxglue.points(int(value)), f"{text}pt")
 
     def test_no_dimension(self):
-        for text in (".pt", "5", "1,5pt", "1PT", "1 pt", "--1pt", "1em", "", "pt", "1pt ", "1pt\n", "\u0661pt", "16383.999999pt", "1073741824sp", "-16384pt"):
+        for text in (
+            ".pt",
+            "5",
+            "1,5pt",
+            "1PT",
+            "1 pt",
+            "--1pt",
+            "1em",
+            "",
+            "pt",
+            "1pt ",
+            "1pt\n",
+            "\u0661pt",
+            "16383.999999pt",
+            "1073741824sp",
+            "-16384pt",
+        ):
             self.assertRaises(ValueError, boxglue.scaled_points, text)
 
     def test_there_and_back(self):
         numbers = random.Random(1)
         greatest = (1 << 30) - 1
-        for value in (*range(-70000, 70000, 7), *(numbers.randint(-greatest, greatest) for _ in range(20_000)), greatest, -greatest):
+        for value in (
+            *range(-70000, 70000, 7),
+            *(numbers.randint(-greatest, greatest) for _ in range(20_000)),
+            greatest,
+            -greatest,
+        ):
             self.assertEqual(boxglue.scaled_points(boxglue.points(value)), value)
 
     def test_as_the_library_reads(self):
         """Random texts in all units: the width of a kern is what is read here."""
         numbers = random.Random(2)
         units = "pt pc in bp cm mm dd cc sp".split()
-        texts = [f"{numbers.choice(('', '-'))}{numbers.randint(0, 9)}.{''.join(numbers.choices('0123456789', k=numbers.randint(0, 20)))}{numbers.choice(units)}" for _ in range(500)]
+        texts = [
+            f"{numbers.choice(('', '-'))}{numbers.randint(0, 9)}.{''.join(numbers.choices('0123456789', k=numbers.randint(0, 20)))}{numbers.choice(units)}"
+            for _ in range(500)
+        ]
         ran = boxglue.run("".join(f"hbox into 0\nkern {it}\nend\n" for it in texts)).check()
-        self.assertEqual([it.width for it in ran.replies if isinstance(it, boxglue.Packed)], [boxglue.scaled_points(it) for it in texts])
+        self.assertEqual(
+            [it.width for it in ran.replies if isinstance(it, boxglue.Packed)],
+            [boxglue.scaled_points(it) for it in texts],
+        )
 
 
 if __name__ == "__main__":

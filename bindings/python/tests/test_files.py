@@ -11,13 +11,19 @@ class Pages(unittest.TestCase):
         self.dvi = boxglue.run(RULE).dvi
 
     def test_listing(self):
-        self.assertEqual(boxglue.listing(self.dvi), "page 1 counts 0 0 0 0 0 0 0 0 0 0\nrule 0 65536 65536 65536\n")
+        self.assertEqual(
+            boxglue.listing(self.dvi),
+            "page 1 counts 0 0 0 0 0 0 0 0 0 0\nrule 0 65536 65536 65536\n",
+        )
 
     def test_bad_file(self):
         for call in (boxglue.listing, boxglue.paint, boxglue.fonts):
             with self.assertRaises(boxglue.Refused) as caught:
                 call(self.dvi[:74])
-            self.assertEqual((caught.exception.name, caught.exception.number, caught.exception.detail), ("BadDvi", 20, "74 Trailer"))
+            self.assertEqual(
+                (caught.exception.name, caught.exception.number, caught.exception.detail),
+                ("BadDvi", 20, "74 Trailer"),
+            )
 
     def test_missing_metrics(self):
         dvi = boxglue.run(TEXT, plain()).dvi
@@ -31,15 +37,26 @@ class Pages(unittest.TestCase):
         cut = plain()["plain"][:8]
         self.assertIsNone(boxglue.check(self.dvi))
         self.assertIsNone(boxglue.check(dvi, plain()))
-        self.assertEqual(boxglue.check(self.dvi[:74]), boxglue.Fault("BadDvi", 20, cause="Trailer", place=74))
+        self.assertEqual(
+            boxglue.check(self.dvi[:74]), boxglue.Fault("BadDvi", 20, cause="Trailer", place=74)
+        )
         self.assertEqual(boxglue.check(dvi), boxglue.Fault("NoFont", 4, missing="plain"))
-        self.assertEqual(boxglue.check(dvi, {"plain": cut}), boxglue.Fault("BadTfm", 5, cause="TooShort", font=0))
-        self.assertEqual(boxglue.check(dvi.replace(b"\xf3\x00", b"\xf3\x09").replace(b"\xab", b"\xb4"), {"plain": cut}).font, 9)
+        self.assertEqual(
+            boxglue.check(dvi, {"plain": cut}), boxglue.Fault("BadTfm", 5, cause="TooShort", font=0)
+        )
+        self.assertEqual(
+            boxglue.check(
+                dvi.replace(b"\xf3\x00", b"\xf3\x09").replace(b"\xab", b"\xb4"), {"plain": cut}
+            ).font,
+            9,
+        )
         self.assertRaises(boxglue.BadFontName, boxglue.check, dvi, {"": b""})
 
     def test_bitmap(self):
         bitmap = boxglue.paint(self.dvi, width=4, height=3)
-        self.assertEqual((bitmap.pbm, bitmap.rows), ("P1\n4 3\n1100\n1100\n0000\n", ["1100", "1100", "0000"]))
+        self.assertEqual(
+            (bitmap.pbm, bitmap.rows), ("P1\n4 3\n1100\n1100\n0000\n", ["1100", "1100", "0000"])
+        )
         self.assertEqual((bitmap.size, repr(bitmap)), ((4, 3), "<a bitmap of 4 by 3 pixels>"))
         wide = boxglue.paint(self.dvi, width=150, height=2)
         self.assertEqual([len(it) for it in wide.rows], [150, 150])
@@ -49,7 +66,16 @@ class Pages(unittest.TestCase):
         self.assertRaises(boxglue.NoSuchPage, boxglue.paint, self.dvi, page=2)
 
     def test_numbers_out_of_range(self):
-        for words in ({"page": 0}, {"page": -1}, {"page": (1 << 32) + 1}, {"dpi": 10_001}, {"dpi": -1}, {"width": 0}, {"width": 10_001}, {"height": (1 << 32) + 1}):
+        for words in (
+            {"page": 0},
+            {"page": -1},
+            {"page": (1 << 32) + 1},
+            {"dpi": 10_001},
+            {"dpi": -1},
+            {"width": 0},
+            {"width": 10_001},
+            {"height": (1 << 32) + 1},
+        ):
             self.assertRaises(boxglue.OutOfRange, boxglue.paint, self.dvi, **words)
 
 

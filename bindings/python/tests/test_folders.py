@@ -20,7 +20,14 @@ class Folders(unittest.TestCase):
         room = tempfile.TemporaryDirectory()
         self.addCleanup(room.cleanup)
         self.room, self.metrics = pathlib.Path(room.name), plain()["plain"]
-        for name in ("one/plain", "one/both", "two/both", "two/second", "other/far", "other/farther"):
+        for name in (
+            "one/plain",
+            "one/both",
+            "two/both",
+            "two/second",
+            "other/far",
+            "other/farther",
+        ):
             path = self.room / f"{name}.tfm"
             path.parent.mkdir(exist_ok=True)
             path.write_bytes(self.metrics if name != "two/both" else b"")
@@ -37,7 +44,15 @@ class Folders(unittest.TestCase):
 
     def test_mapping(self):
         self.assertEqual([*self.folder], ["both", "plain", "second"])
-        self.assertEqual((len(self.folder), self.folder["both"], "plain" in self.folder, self.folder.get("third")), (3, self.metrics, True, None))
+        self.assertEqual(
+            (
+                len(self.folder),
+                self.folder["both"],
+                "plain" in self.folder,
+                self.folder.get("third"),
+            ),
+            (3, self.metrics, True, None),
+        )
         self.assertRaises(KeyError, self.folder.__getitem__, "far")
 
     def test_names_that_are_no_names(self):
@@ -53,29 +68,41 @@ class Folders(unittest.TestCase):
         dvi = boxglue.run(TEXT, plain()).check().dvi
         self.assertEqual(boxglue.listing(dvi, self.folder), boxglue.listing(dvi, plain()))
         self.assertEqual(boxglue.paint(dvi, self.folder), boxglue.paint(dvi, plain()))
-        self.assertEqual([*boxglue.marks(dvi, self.folder).marks], [*boxglue.marks(dvi, plain()).marks])
+        self.assertEqual(
+            [*boxglue.marks(dvi, self.folder).marks], [*boxglue.marks(dvi, plain()).marks]
+        )
         self.assertEqual(self.folder._files.keys(), {"plain"})
 
     def test_refused_files(self):
         """A file is refused as without the folder, also where its fonts alone are refused otherwise: here for a page, and else for a definition after it."""
         dvi = bytearray(boxglue.run(TEXT, plain()).check().dvi)
         dvi[dvi.index(b"\xf8") + 29] = dvi[dvi.index(b"\x8b") + 45] = 250
-        self.assertNotEqual(refusal_of(boxglue.fonts, dvi), refusal_of(boxglue.listing, dvi, plain()))
+        self.assertNotEqual(
+            refusal_of(boxglue.fonts, dvi), refusal_of(boxglue.listing, dvi, plain())
+        )
         for given in (dvi, dvi[:50]):
-            self.assertEqual(refusal_of(boxglue.listing, given, self.folder), refusal_of(boxglue.listing, given, plain()))
+            self.assertEqual(
+                refusal_of(boxglue.listing, given, self.folder),
+                refusal_of(boxglue.listing, given, plain()),
+            )
 
     def test_font_that_there_is_not(self):
         self.assertEqual(boxglue.run("font 0 third\n", self.folder).refusals[0].name, "NoFont")
 
     def test_job(self):
-        with boxglue.Job(self.folder) as job, boxglue.Job(self.folder.choose(["plain", "third"])) as other:
+        with boxglue.Job(self.folder) as job, boxglue.Job(
+            self.folder.choose(["plain", "third"])
+        ) as other:
             self.assertEqual(job.commands(TEXT).check(), other.commands(TEXT))
             self.assertTrue(job.commands("font 9 both\n").accepted)
             self.assertFalse(other.commands("font 9 both\n").accepted)
 
     def test_kpsewhich(self):
         folder = self.with_kpsewhich()
-        self.assertEqual([folder.get(it) for it in ("plain", "far", "far", "near", "near", "../x")], [self.metrics] * 3 + [None] * 3)
+        self.assertEqual(
+            [folder.get(it) for it in ("plain", "far", "far", "near", "near", "../x")],
+            [self.metrics] * 3 + [None] * 3,
+        )
         self.assertEqual((self.room / "asked").read_text(), "far.tfm\nnear.tfm\n")
         self.assertTrue(boxglue.run("font 0 far\n", folder).accepted)
 
@@ -86,7 +113,9 @@ class Folders(unittest.TestCase):
         self.assertEqual((self.room / "asked").read_text(), "near.tfm far.tfm farther.tfm\n")
         folder = self.with_kpsewhich()
         self.assertTrue(boxglue.run("font 0 far\nfont 1 farther\nfont 2 plain\n", folder).accepted)
-        self.assertEqual((self.room / "asked").read_text(), "near.tfm far.tfm farther.tfm\nfar.tfm farther.tfm\n")
+        self.assertEqual(
+            (self.room / "asked").read_text(), "near.tfm far.tfm farther.tfm\nfar.tfm farther.tfm\n"
+        )
 
 
 if __name__ == "__main__":

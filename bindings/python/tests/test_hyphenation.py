@@ -68,7 +68,13 @@ class Rules(unittest.TestCase):
     def test_module(self):
         """It is loaded when it is first used."""
         self.assertIs(boxglue.hyphenation, hyphenation)
-        self.assertTrue(all(getattr(hyphenation, it).__doc__ for it in hyphenation.__all__ if it not in ("Piece", "Rule")))
+        self.assertTrue(
+            all(
+                getattr(hyphenation, it).__doc__
+                for it in hyphenation.__all__
+                if it not in ("Piece", "Rule")
+            )
+        )
 
     def parts(self, patterns, word):
         """A word with a hyphen at each place."""

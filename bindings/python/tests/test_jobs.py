@@ -36,7 +36,11 @@ def run_pieces(script, fonts, most):
             taken.append(job.take())
         answered.append(job.finish())
         taken.append(job.take())
-    return "".join(it.answers_text for it in answered), b"".join(taken), all(it.accepted for it in answered)
+    return (
+        "".join(it.answers_text for it in answered),
+        b"".join(taken),
+        all(it.accepted for it in answered),
+    )
 
 
 def whole(script, fonts):
@@ -63,21 +67,35 @@ class Jobs(unittest.TestCase):
     def test_answers_of_a_piece(self):
         with boxglue.Job() as job:
             answers = job.commands("hbox into 0\n")
-            self.assertEqual(([*answers.replies], answers.answers_text, answers.accepted), ([boxglue.Ok(1)], "1: ok\n", True))
+            self.assertEqual(
+                ([*answers.replies], answers.answers_text, answers.accepted),
+                ([boxglue.Ok(1)], "1: ok\n", True),
+            )
             answers = job.commands("rule 1pt 1pt 0pt\nship 9")
-            self.assertEqual((answers.answers_text, answers.accepted), ("2: ok\n3: refused 21 VoidBox\n", False))
+            self.assertEqual(
+                (answers.answers_text, answers.accepted), ("2: ok\n3: refused 21 VoidBox\n", False)
+            )
             self.assertRaises(boxglue.Refused, answers.check)
             self.assertEqual(([*job.commands("").replies], job.commands("").accepted), ([], True))
-            self.assertEqual(job.commands("end\n").check().answers_text, "4: packed 1.0pt 1.0pt 0.0pt badness 0\n")
+            self.assertEqual(
+                job.commands("end\n").check().answers_text,
+                "4: packed 1.0pt 1.0pt 0.0pt badness 0\n",
+            )
 
     def test_bad_piece_leaves_the_job(self):
         with boxglue.Job() as job:
             job.commands("hbox into 0\nrule 1pt 1pt 0pt\n").check()
-            refused, = job.commands("end\nship 0\nkern x\n").refusals
-            self.assertEqual((refused.line, refused.name, refused.cause), (5, "BadScript", "Dimension"))
+            (refused,) = job.commands("end\nship 0\nkern x\n").refusals
+            self.assertEqual(
+                (refused.line, refused.name, refused.cause), (5, "BadScript", "Dimension")
+            )
             self.assertEqual(job.take(), b"")
-            self.assertEqual(job.commands("end\nship 0\n").answers_text, "".join(ANSWERS.splitlines(True)[2:4]))
-            self.assertEqual(job.finish().answers_text + str(len(job.take())), "end: pages 1 bytes 116\n116")
+            self.assertEqual(
+                job.commands("end\nship 0\n").answers_text, "".join(ANSWERS.splitlines(True)[2:4])
+            )
+            self.assertEqual(
+                job.finish().answers_text + str(len(job.take())), "end: pages 1 bytes 116\n116"
+            )
 
     def test_bytes_go_out_with_each_page(self):
         with boxglue.Job() as job:
@@ -95,12 +113,14 @@ class Jobs(unittest.TestCase):
         script = "".join(RULE.replace("1pt 0pt", f"{it}pt 0pt") for it in range(1, 3001))
         with boxglue.Job() as job:
             answers, end = job.commands(script).check(), job.finish().check()
-            self.assertEqual((answers.answers_text + end.answers_text, job.take(), True), whole(script, {}))
+            self.assertEqual(
+                (answers.answers_text + end.answers_text, job.take(), True), whole(script, {})
+            )
 
     def test_end_with_an_open_list(self):
         with boxglue.Job() as job:
             job.commands("hbox into 0\n").check()
-            refused, = job.finish().refusals
+            (refused,) = job.finish().refusals
             self.assertEqual(refused.name, "ListsOpen")
             job.commands("end\n").check()
             self.assertEqual([*job.finish().check().replies], [boxglue.End(0, 0)])
@@ -123,7 +143,12 @@ class Jobs(unittest.TestCase):
         job.commands(RULE).check()
         job.close()
         job.close()
-        for call in (lambda: job.commands(RULE), job.take, job.finish, lambda: job.__enter__().commands("")):
+        for call in (
+            lambda: job.commands(RULE),
+            job.take,
+            job.finish,
+            lambda: job.__enter__().commands(""),
+        ):
             self.assertRaises(boxglue.NoJob, call)
 
     def test_fonts_are_copied(self):
@@ -206,8 +231,13 @@ def cuts_off(count):
     left = iter(range(count, -1, -1))
 
     def profile(frame, event, _called):
-        if event == "c_return" and frame.f_globals["__name__"].startswith("boxglue") and not next(left):
+        if (
+            event == "c_return"
+            and frame.f_globals["__name__"].startswith("boxglue")
+            and not next(left)
+        ):
             raise KeyboardInterrupt
+
     return profile
 
 
@@ -222,11 +252,20 @@ class Ends(unittest.TestCase):
                 self.assertEqual((answers.answers_text, answers.accepted), ("2: ok\n", True))
                 with mock.patch.object(_job, "replies_of", side_effect=error):
                     self.assertRaises(error, job.finish)
-                self.assertEqual(job.commands("end\n").check().answers_text, "3: packed 0.0pt 0.0pt 0.0pt badness 0\n")
+                self.assertEqual(
+                    job.commands("end\n").check().answers_text,
+                    "3: packed 0.0pt 0.0pt 0.0pt badness 0\n",
+                )
 
     def test_bytes_that_were_cut_off(self):
         """Bytes of the file that were not handed on are in those of the next call."""
-        script = RULE + RULE.replace("rule", "special " + "x" * 60_000 + "\nspecial " + "y" * 60_000 + "\nrule") + RULE
+        script = (
+            RULE
+            + RULE.replace(
+                "rule", "special " + "x" * 60_000 + "\nspecial " + "y" * 60_000 + "\nrule"
+            )
+            + RULE
+        )
         wanted, taken = boxglue.run(script).check().dvi, []
         with boxglue.Job() as job:
             for line in script.splitlines():
@@ -269,7 +308,12 @@ class Ends(unittest.TestCase):
 
     def test_a_signal_handler_closes_the_job(self):
         """A handler that interrupts a call does not wait for it, and later calls raise NoJob."""
-        done = subprocess.run([sys.executable, "-c", CLOSES], env={**os.environ, "PYTHONPATH": PACKAGE}, stdout=subprocess.PIPE, timeout=60)
+        done = subprocess.run(
+            [sys.executable, "-c", CLOSES],
+            env={**os.environ, "PYTHONPATH": PACKAGE},
+            stdout=subprocess.PIPE,
+            timeout=60,
+        )
         self.assertEqual((done.stdout, done.returncode), (b"closed\n", 0))
 
     def test_closed_job_keeps_no_buffers(self):
@@ -280,13 +324,21 @@ class Ends(unittest.TestCase):
 
     def test_thread_inside_a_call(self):
         """A job is not freed while a thread is inside a call on it."""
-        done = subprocess.run([sys.executable, "-c", ENDS], env={**os.environ, "PYTHONPATH": PACKAGE}, stdout=subprocess.PIPE, timeout=60)
+        done = subprocess.run(
+            [sys.executable, "-c", ENDS],
+            env={**os.environ, "PYTHONPATH": PACKAGE},
+            stdout=subprocess.PIPE,
+            timeout=60,
+        )
         self.assertEqual((done.stdout, done.returncode), (b"", 0))
 
     def test_dropped_job(self):
         """A job that is dropped is freed."""
         library, freed = _library.library(), []
-        slow = types.SimpleNamespace(boxglue_job_new=library.boxglue_job_new, boxglue_job_free=lambda handle: (freed.append(1), library.boxglue_job_free(handle)))
+        slow = types.SimpleNamespace(
+            boxglue_job_new=library.boxglue_job_new,
+            boxglue_job_free=lambda handle: (freed.append(1), library.boxglue_job_free(handle)),
+        )
         with mock.patch.object(_job, "library", lambda: slow):
             job = boxglue.Job()
         del job

@@ -13,7 +13,9 @@ class Versions(unittest.TestCase):
 
     def message(self, number):
         version = lambda: number
-        with mock.patch("ctypes.CDLL", lambda _: types.SimpleNamespace(boxglue_version=version)), self.assertRaises(boxglue.BoxglueError) as caught:
+        with mock.patch(
+            "ctypes.CDLL", lambda _: types.SimpleNamespace(boxglue_version=version)
+        ), self.assertRaises(boxglue.BoxglueError) as caught:
             _library.library.__wrapped__()
         return str(caught.exception)
 
@@ -21,27 +23,43 @@ class Versions(unittest.TestCase):
         self.assertIn("has version 2.3.4, and this package is for 1.x", self.message(20304))
 
     def test_older_version(self):
-        self.assertRegex(self.message(10000), r"has version 1\.0\.0, and lacks boxglue_\w+: it is older than this package")
+        self.assertRegex(
+            self.message(10000),
+            r"has version 1\.0\.0, and lacks boxglue_\w+: it is older than this package",
+        )
 
     def test_other_library(self):
         with mock.patch("ctypes.CDLL", lambda _: types.SimpleNamespace()):
-            self.assertRaisesRegex(boxglue.BoxglueError, "is not a library of boxglue", _library.library.__wrapped__)
+            self.assertRaisesRegex(
+                boxglue.BoxglueError, "is not a library of boxglue", _library.library.__wrapped__
+            )
         with mock.patch.dict(os.environ, BOXGLUE_LIBRARY=__file__):
-            self.assertRaisesRegex(boxglue.BoxglueError, "is not a library of boxglue", _library.library.__wrapped__)
+            self.assertRaisesRegex(
+                boxglue.BoxglueError, "is not a library of boxglue", _library.library.__wrapped__
+            )
 
     def test_place(self):
         """BOXGLUE_LIBRARY comes first, then the package's file, then the system's."""
         with mock.patch.dict(os.environ, BOXGLUE_LIBRARY="no such file"):
             self.assertEqual(_library.library_path(), os.path.abspath("no such file"))
         with mock.patch.dict(os.environ, BOXGLUE_LIBRARY=""):
-            for is_there, place in ((True, f"{os.path.dirname(_library.__file__)}/libboxglue.so"), (False, "libboxglue.so.1")):
+            for is_there, place in (
+                (True, f"{os.path.dirname(_library.__file__)}/libboxglue.so"),
+                (False, "libboxglue.so.1"),
+            ):
                 with mock.patch("os.path.exists", lambda _: is_there):
                     self.assertEqual(_library.library_path(), place)
 
     def test_no_library(self):
         absent = mock.patch("ctypes.CDLL", side_effect=OSError("no file"))
-        with mock.patch.dict(os.environ, BOXGLUE_LIBRARY=""), mock.patch("os.path.exists", lambda _: False), absent:
-            self.assertRaisesRegex(boxglue.BoxglueError, "boxglue found no library in this package or the system", _library.library.__wrapped__)
+        with mock.patch.dict(os.environ, BOXGLUE_LIBRARY=""), mock.patch(
+            "os.path.exists", lambda _: False
+        ), absent:
+            self.assertRaisesRegex(
+                boxglue.BoxglueError,
+                "boxglue found no library in this package or the system",
+                _library.library.__wrapped__,
+            )
 
 
 class Proofs(unittest.TestCase):
@@ -49,7 +67,9 @@ class Proofs(unittest.TestCase):
         """The library is asked each time. One that was built without proofs has a symbol, too."""
         self.assertEqual(boxglue.proved(), not hasattr(_library.library(), "boxglue_unproved"))
         for answer in (0, 1):
-            with mock.patch.object(_library, "library", lambda: types.SimpleNamespace(boxglue_proved=lambda: answer)):
+            with mock.patch.object(
+                _library, "library", lambda: types.SimpleNamespace(boxglue_proved=lambda: answer)
+            ):
                 self.assertIs(boxglue.proved(), bool(answer))
 
 

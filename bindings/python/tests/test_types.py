@@ -91,7 +91,9 @@ class Types(unittest.TestCase):
 
     @unittest.skipUnless(shutil.which("mypy"), "mypy is not on the path")
     def test_wrong_client(self):
-        lines = {int(it) for it in re.findall(r"client\.py:(\d+): error", self.checked(WRONG).stdout)}
+        lines = {
+            int(it) for it in re.findall(r"client\.py:(\d+): error", self.checked(WRONG).stdout)
+        }
         self.assertEqual(lines, {*range(3, 11)})
 
     def checked(self, client, more=()):
@@ -100,20 +102,54 @@ class Types(unittest.TestCase):
         with tempfile.TemporaryDirectory(prefix="boxglue-types-") as room:
             with open(f"{room}/client.py", "w", encoding="ascii") as it:
                 it.write(client)
-            words = ["mypy", "--strict", "--python-version", "3.11", "--cache-dir", os.devnull, *more, f"{room}/client.py"]
-            return subprocess.run(words, env={**os.environ, "MYPYPATH": folder}, stdout=subprocess.PIPE, text=True, timeout=300)
+            words = [
+                "mypy",
+                "--strict",
+                "--python-version",
+                "3.11",
+                "--cache-dir",
+                os.devnull,
+                *more,
+                f"{room}/client.py",
+            ]
+            return subprocess.run(
+                words,
+                env={**os.environ, "MYPYPATH": folder},
+                stdout=subprocess.PIPE,
+                text=True,
+                timeout=300,
+            )
 
     def test_marked_as_typed(self):
         self.assertTrue(os.path.exists(f"{os.path.dirname(boxglue.__file__)}/py.typed"))
 
     def test_module_of_names(self):
         """Users see `boxglue.Job`, and no module below."""
-        for name in {*boxglue.__all__} - {"Item", "Mark", "Reply", "OML", "OMS", "OT1", "T1", "TS1"}:
+        for name in {*boxglue.__all__} - {
+            "Item",
+            "Mark",
+            "Reply",
+            "OML",
+            "OMS",
+            "OT1",
+            "T1",
+            "TS1",
+        }:
             self.assertEqual(getattr(boxglue, name).__module__, "boxglue", name)
         self.assertEqual(repr(boxglue.Job), "<class 'boxglue.Job'>")
         self.assertTrue({*boxglue.__all__} <= {*dir(boxglue)})
-        self.assertRaisesRegex(AttributeError, "^module 'boxglue' has no attribute 'foo'$", getattr, boxglue, "foo")
-        for kind in (boxglue.Packed, boxglue.Split, boxglue.Measured, boxglue.Glyph, boxglue.Bitmap, boxglue.DviFont, boxglue.Units):
+        self.assertRaisesRegex(
+            AttributeError, "^module 'boxglue' has no attribute 'foo'$", getattr, boxglue, "foo"
+        )
+        for kind in (
+            boxglue.Packed,
+            boxglue.Split,
+            boxglue.Measured,
+            boxglue.Glyph,
+            boxglue.Bitmap,
+            boxglue.DviFont,
+            boxglue.Units,
+        ):
             self.assertTrue(typing.get_type_hints(kind))
 
     def test_time_of_the_import(self):
@@ -121,20 +157,46 @@ class Types(unittest.TestCase):
         process, since what a loaded machine adds to two whole runs is more than the import."""
         code = "import time; start = time.process_time(); import boxglue; print(start, time.process_time() - start)"
         with tempfile.TemporaryDirectory(prefix="boxglue-types-") as room:
-            env = {**os.environ, "PYTHONPATH": os.path.dirname(os.path.dirname(boxglue.__file__)), "PYTHONPYCACHEPREFIX": room, "PYTHONDONTWRITEBYTECODE": ""}
-            printed = [subprocess.run([sys.executable, "-c", code], env=env, check=True, stdout=subprocess.PIPE, text=True, timeout=60).stdout for _ in range(21)]
-        start, whole = (min(times) for times in zip(*(map(float, it.split()) for it in printed[1:])))  # the first run compiles
+            env = {
+                **os.environ,
+                "PYTHONPATH": os.path.dirname(os.path.dirname(boxglue.__file__)),
+                "PYTHONPYCACHEPREFIX": room,
+                "PYTHONDONTWRITEBYTECODE": "",
+            }
+            printed = [
+                subprocess.run(
+                    [sys.executable, "-c", code],
+                    env=env,
+                    check=True,
+                    stdout=subprocess.PIPE,
+                    text=True,
+                    timeout=60,
+                ).stdout
+                for _ in range(21)
+            ]
+        start, whole = (
+            min(times) for times in zip(*(map(float, it.split()) for it in printed[1:]))
+        )  # the first run compiles
         self.assertLess(whole, 0.4 * start)
 
     def test_modules_of_the_import(self):
         """The import loads no other module than the package itself, and what Python is started with has not."""
         code = "import sys; before = {*sys.modules}; import boxglue; print(*sorted({*sys.modules} - before))"
         env = {**os.environ, "PYTHONPATH": os.path.dirname(os.path.dirname(boxglue.__file__))}
-        done = subprocess.run([sys.executable, "-c", code], env=env, check=True, stdout=subprocess.PIPE, text=True, timeout=60)
+        done = subprocess.run(
+            [sys.executable, "-c", code],
+            env=env,
+            check=True,
+            stdout=subprocess.PIPE,
+            text=True,
+            timeout=60,
+        )
         self.assertEqual(done.stdout, "__future__ boxglue\n")
 
     def test_all_names(self):
-        self.assertEqual(boxglue.__all__, sorted(boxglue.__all__, key=lambda it: (it[0].islower(), it)))
+        self.assertEqual(
+            boxglue.__all__, sorted(boxglue.__all__, key=lambda it: (it[0].islower(), it))
+        )
         for name in {*boxglue.__all__} - {"Item", "Mark", "Reply"}:  # these are unions
             self.assertTrue(getattr(boxglue, name).__doc__, name)
 

@@ -52,7 +52,12 @@ class Typed:
         if word == "end":
             return self.end()
         if word == "font":
-            return calls.load(words[1], slot=int(words[0]), at=None if words[2] == "-" else int(words[2])) and None
+            return (
+                calls.load(
+                    words[1], slot=int(words[0]), at=None if words[2] == "-" else int(words[2])
+                )
+                and None
+            )
         if word == "glue":
             return calls.glue(*glue(words))
         if word == "set":
@@ -110,7 +115,9 @@ def difference(ran, calls, fonts, make):
     with boxglue.Job(fonts) as job:
         replies = [*make(job, calls), job.finish().replies[0]]
         dvi = job.take()
-    for number, (found, wanted, call) in enumerate(zip(replies, ran.replies, [*calls, "finish"]), 1):
+    for number, (found, wanted, call) in enumerate(
+        zip(replies, ran.replies, [*calls, "finish"]), 1
+    ):
         if found != wanted and not (found is None and is_unseen(wanted, call, make)):
             return f"line {number}, {call!r}: {found!r}, and by the script {wanted!r}"
     return None if dvi == ran.dvi and len(replies) == len(ran.replies) else "the files differ"
@@ -126,7 +133,7 @@ def main(path, metrics, make=replies_of, least=0):
         first = line + 1 + int(data[at:line].split()[1])
         end = data.find(b"\ndocument ", first) + 1 or len(data)
         calls = data[first:end].decode("ascii").splitlines()
-        ran = boxglue.run(data[line + 1:first], fonts)
+        ran = boxglue.run(data[line + 1 : first], fonts)
         if make is replies_of or can_be_said(ran):
             said += 1
             wrong = difference(ran, calls, fonts, make)

@@ -11,7 +11,9 @@ from models.dvi_reader import list_file
 from models.every_instruction import every_instruction
 from models.metric_reader import Refused, read_metrics
 
-TITLE = "the damaged files of crates/rows_damaged, by the tests' own readers of DVI and metric files"
+TITLE = (
+    "the damaged files of crates/rows_damaged, by the tests' own readers of DVI and metric files"
+)
 WEIGHT = 2
 TRIES = False
 SPLIT = in_turn(4)
@@ -24,6 +26,7 @@ OFFSET_BASIS, PRIME, MASK = 0xCBF29CE484222325, 0x100000001B3, (1 << 64) - 1
 @dataclass
 class Sample:
     """A good file: its kind, its bytes, the metric files for it, and the lines that ask for changes."""
+
     kind: str
     data: bytes = b""
     fonts: dict = field(default_factory=dict)
@@ -41,7 +44,7 @@ class Sample:
 
     def with_byte(self, place, value):
         """The answer to the file with another byte at a place."""
-        return self.answer(self.data[:place] + bytes([value]) + self.data[place + 1:])
+        return self.answer(self.data[:place] + bytes([value]) + self.data[place + 1 :])
 
 
 def samples_of(text):
@@ -100,7 +103,9 @@ def pieces_of(sample):
     if "each byte" in sample.asked:
         for at in range(0, len(sample.data), PLACES):
             places = range(at, min(at + PLACES, len(sample.data)))
-            yield f"bytes_from_{at}", lambda places=places: [changed_at(sample, it) for it in places]
+            yield f"bytes_from_{at}", lambda places=places: [
+                changed_at(sample, it) for it in places
+            ]
     if "each beginning" in sample.asked:
         yield "beginnings", lambda: [cut(sample, it) for it in range(len(sample.data) + 1)]
 
@@ -112,19 +117,25 @@ def lines_of(text, name):
     if name == "beginnings":
         return re.findall(rb"^first .*$", text, re.M)
     at = int(name.rpartition("_")[2])
-    return [it for it in re.findall(rb"^byte .*$", text, re.M) if at <= int(it.split()[1]) < at + PLACES]
+    return [
+        it for it in re.findall(rb"^byte .*$", text, re.M) if at <= int(it.split()[1]) < at + PLACES
+    ]
 
 
 def outcome(text, name, make):
     """How the lines of a piece differ from those of the readers."""
-    return first_difference("the text", b"\n".join(lines_of(text, name)), "\n".join(make()).encode())
+    return first_difference(
+        "the text", b"\n".join(lines_of(text, name)), "\n".join(make()).encode()
+    )
 
 
 def cases(_programs, root):
     """The bytes of the file that is made, and the pieces of each DVI and metric file."""
     folder = f"{root}/crates/rows_damaged"
     printed, samples = blocks(read(folder, "stdout")), samples_of(read(folder, "stdin"))
-    yield "every_instruction/file", lambda: first_difference("the file", samples["every_instruction"].data, every_instruction())
+    yield "every_instruction/file", lambda: first_difference(
+        "the file", samples["every_instruction"].data, every_instruction()
+    )
     for name, sample in samples.items():
         if sample.kind != "script":
             for piece, make in pieces_of(sample):

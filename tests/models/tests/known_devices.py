@@ -21,13 +21,19 @@ PT = 65536
 @dataclass(frozen=True)
 class Script:
     """A script: pairs of a command and its answer, and the file that it makes."""
+
     rows: tuple
     file: DviFile
 
 
 def page_rows(item, answer, width, height, number):
     """The commands that ship a box of one item as this page, and their answers."""
-    return ("hbox into 0", "ok"), (item, answer), ("end", packed(width * PT, height * PT, 0)), ("ship 0", f"shipped {number}")
+    return (
+        ("hbox into 0", "ok"),
+        (item, answer),
+        ("end", packed(width * PT, height * PT, 0)),
+        ("ship 0", f"shipped {number}"),
+    )
 
 
 def rule_page(width, height):
@@ -45,9 +51,14 @@ FONT = ("font 0 tiny", "ok"), ("use 0", "ok")
 GLYPHS = [page_rows("char 97", "added 1 missing 0", 5, 5, number) for number in (1, 3)]
 SCRIPTS = (
     Script(ONE_RULE, dvi_file([rule_page(1, 1)], PT, PT)),
-    Script((*ONE_RULE, *page_rows("rule 2pt 3pt 0pt", "ok", 2, 3, 2)), dvi_file([rule_page(1, 1), rule_page(2, 3)], 3 * PT, 2 * PT)),
-    Script((*FONT, *GLYPHS[0], *page_rows("rule 1pt 1pt 0pt", "ok", 1, 1, 2), *GLYPHS[1]),
-           dvi_file([glyph_page(Font(0, b"tiny")), rule_page(1, 1), glyph_page()], 5 * PT, 5 * PT)),
+    Script(
+        (*ONE_RULE, *page_rows("rule 2pt 3pt 0pt", "ok", 2, 3, 2)),
+        dvi_file([rule_page(1, 1), rule_page(2, 3)], 3 * PT, 2 * PT),
+    ),
+    Script(
+        (*FONT, *GLYPHS[0], *page_rows("rule 1pt 1pt 0pt", "ok", 1, 1, 2), *GLYPHS[1]),
+        dvi_file([glyph_page(Font(0, b"tiny")), rule_page(1, 1), glyph_page()], 5 * PT, 5 * PT),
+    ),
 )
 
 
@@ -63,7 +74,7 @@ class Fuse:
         if self.calls == self.at:
             self.failures += 1
             return 0
-        self.data += piece[:self.most]
+        self.data += piece[: self.most]
         return min(self.most, len(piece))
 
 
@@ -100,7 +111,13 @@ def run(script, device):
         fails = command == "ship 0" and not is_over and not is_sent(device, sends.pop(0))
         lines.append(f"{number}: {OVER if is_over else FAILED if fails else answer}\n")
         is_over = is_over or fails
-    end = OVER if is_over else summary(len(script.file.page_ends), script.file) if is_sent(device, sends.pop(0)) else FAILED
+    end = (
+        OVER
+        if is_over
+        else summary(len(script.file.page_ends), script.file)
+        if is_sent(device, sends.pop(0))
+        else FAILED
+    )
     return "".join([*lines, f"end: {end}\n"]), not end.startswith("refused")
 
 
@@ -112,7 +129,9 @@ def verdict(accepted):
 def run_text(script, device, fuse):
     """The output for a run on a device, of which `fuse` is the inner one."""
     answers, accepted = run(script, device)
-    return f"{answers}{hexadecimal(fuse.data).decode()}failures {fuse.failures}\n{verdict(accepted)}\n"
+    return (
+        f"{answers}{hexadecimal(fuse.data).decode()}failures {fuse.failures}\n{verdict(accepted)}\n"
+    )
 
 
 def rerun_text(script, fuse, words):
@@ -140,11 +159,15 @@ def case_text(text):
     lines = [line for line in text.decode().splitlines() if line and line[0] != "%"]
     commands = tuple(it[1:] for it in lines if it[0] == "|")
     script = next(it for it in SCRIPTS if commands == tuple(command for command, _ in it.rows))
-    (device, most, at, *calls), *reruns = [it.split()[1:] for it in lines if it[0] != "|" and not it.startswith("font ")]
+    (device, most, at, *calls), *reruns = [
+        it.split()[1:] for it in lines if it[0] != "|" and not it.startswith("font ")
+    ]
     assert device == "fuse"
     if at == "each":
         fuse = Fuse(int(most), 0)
-        return run_text(script, fuse, fuse) + "".join(call_text(script, int(most), it) for it in range(1, int(calls[0]) + 1))
+        return run_text(script, fuse, fuse) + "".join(
+            call_text(script, int(most), it) for it in range(1, int(calls[0]) + 1)
+        )
     fuse = Fuse(int(most), int(at))
     parts = [run_text(script, fuse, fuse)]
     for words in reruns:

@@ -12,43 +12,148 @@ AT_10PT, AT_20PT = Font(0, b"tiny"), Font(1, b"tiny", 20 * PT)
 
 # For a file: its pages, the greatest height plus depth and width; and the expected bytes by their places, place of post, and length.
 FILES = {
-    "one_rule": ([Page(ONE_RULE)], PT, PT, {
-        0: "f7 02 018392c0 1c3b0000 000003e8 00",
-        15: "8b" + "00000000" * 10 + "ffffffff 9f010000 84 00010000 00010000 8c",
-        74: "f8 0000000f 018392c0 1c3b0000 000003e8 00010000 00010000 0000 0001 f9 0000004a 02 dfdfdfdfdfdfdf",
-    }, 74, 116),
-    "four_rules_with_kerns": ([Page([down(PT), RULE, *[right(2 * PT), RULE] * 3])], PT, 10 * PT, {
-        60: "9f010000 840001000000010000 96020000 840001000000010000 93 840001000000010000 93 840001000000010000 8c",
-    }, 107, 148),
-    "two_pages": ([Page(ONE_RULE), Page(ONE_RULE, (7, *[0] * 9))], PT, PT, {
-        74: "8b 00000007" + "00000000" * 9 + "0000000f 9f010000",
-        133: "f8 0000004a", 160: "0002",
-    }, 133, 172),
-    "two_rules_in_a_vbox": ([Page([down(5 * PT), put_rule(5 * PT, 10 * PT), down(15 * PT), put_rule(5 * PT, 10 * PT)])], 20 * PT, 10 * PT, {
-        60: "9f 050000 89 00050000 000a0000 9f 0f0000 89 00050000 000a0000 8c", 104: "00140000 000a0000",
-    }, 87, 128),
-    "one_glyph": ([Page([down(5 * PT), select(0), C], new_fonts=(AT_10PT,))], 5 * PT, 5 * PT, {
-        15: "f3 00 00000000 000a0000 000a0000 00 04 74696e79 8b" + "00000000" * 10 + "ffffffff 9f 050000 ab 63 8c",
-        87: "f8 00000023 018392c0 1c3b0000 000003e8 00050000 00050000 0000 0001 f3 00 00000000 000a0000 000a0000 00 04 74696e79 f9 00000057 02 dfdfdfdfdfdf",
-    }, 87, 148),
-    "fonts_in_nested_boxes": ([Page([down(10 * PT), select(0), C, [select(1), B], right(10 * PT), C], new_fonts=(AT_10PT, AT_20PT))], 15 * PT, 25 * PT, {
-        100: "9f0a0000 ab 63 8d ac 62 8e 910a0000 63 8c", 141: "0001",
-    }, 116, 196),
-    "a_box_that_shows_nothing": ([Page([[], right(PT), down(PT), RULE])], PT, 2 * PT, {60: "91010000 9f010000 840001000000010000 8c", 103: "0000"}, 78, 120),
-    "an_offset": ([Page([right(2 * PT), down(4 * PT), RULE])], 4 * PT, 3 * PT, {
-        60: "91020000 9f040000 840001000000010000 8c", 95: "00040000 00030000",
-    }, 78, 120),
-    "a_special_and_a_rule": ([Page([down(PT), special(b"hi"), RULE])], PT, PT, {
-        60: "9f010000 ef02 6869 840001000000010000 8c f8 0000000f", 103: "0000 0001 f9 0000004e 02 dfdfdfdfdfdfdf",
-    }, 78, 120),
-    "specials_of_255_and_256_bytes": ([Page([special(bytes(255)), special(bytes(256))])], 0, 0, {60: "efff", 60 + 2 + 255: "f2 00000100"}, 60 + 257 + 261 + 1, 620),
-    "shifted_boxes": ([Page([[down(3 * PT), RULE], [], right(4 * PT), down(PT), RULE])], 3 * PT, 5 * PT, {
-        60: "8d 9f030000 840001000000010000 8e 91040000 9f010000 840001000000010000 8c",
-    }, 93, 132),
-    "three_lines": ([Page([[down((5 + 12 * at) * PT), *first, C, right(amount), C] for at, (first, amount) in enumerate(
-        (([select(0)], 0x3c000), ([], 0x3c000), ([], 0x32000)))], new_fonts=(AT_10PT,))], 29 * PT, 901120, {
-        80: "8d 9f050000 ab 63 9103c000 63 8e 8d 9f110000 63 9103c000 63 8e 8d 9f1d0000 63 91032000 63 8e 8c",
-    }, 118, 180),
+    "one_rule": (
+        [Page(ONE_RULE)],
+        PT,
+        PT,
+        {
+            0: "f7 02 018392c0 1c3b0000 000003e8 00",
+            15: "8b" + "00000000" * 10 + "ffffffff 9f010000 84 00010000 00010000 8c",
+            74: "f8 0000000f 018392c0 1c3b0000 000003e8 00010000 00010000 0000 0001 f9 0000004a 02 dfdfdfdfdfdfdf",
+        },
+        74,
+        116,
+    ),
+    "four_rules_with_kerns": (
+        [Page([down(PT), RULE, *[right(2 * PT), RULE] * 3])],
+        PT,
+        10 * PT,
+        {
+            60: "9f010000 840001000000010000 96020000 840001000000010000 93 840001000000010000 93 840001000000010000 8c",
+        },
+        107,
+        148,
+    ),
+    "two_pages": (
+        [Page(ONE_RULE), Page(ONE_RULE, (7, *[0] * 9))],
+        PT,
+        PT,
+        {
+            74: "8b 00000007" + "00000000" * 9 + "0000000f 9f010000",
+            133: "f8 0000004a",
+            160: "0002",
+        },
+        133,
+        172,
+    ),
+    "two_rules_in_a_vbox": (
+        [Page([down(5 * PT), put_rule(5 * PT, 10 * PT), down(15 * PT), put_rule(5 * PT, 10 * PT)])],
+        20 * PT,
+        10 * PT,
+        {
+            60: "9f 050000 89 00050000 000a0000 9f 0f0000 89 00050000 000a0000 8c",
+            104: "00140000 000a0000",
+        },
+        87,
+        128,
+    ),
+    "one_glyph": (
+        [Page([down(5 * PT), select(0), C], new_fonts=(AT_10PT,))],
+        5 * PT,
+        5 * PT,
+        {
+            15: "f3 00 00000000 000a0000 000a0000 00 04 74696e79 8b"
+            + "00000000" * 10
+            + "ffffffff 9f 050000 ab 63 8c",
+            87: "f8 00000023 018392c0 1c3b0000 000003e8 00050000 00050000 0000 0001 f3 00 00000000 000a0000 000a0000 00 04 74696e79 f9 00000057 02 dfdfdfdfdfdf",
+        },
+        87,
+        148,
+    ),
+    "fonts_in_nested_boxes": (
+        [
+            Page(
+                [down(10 * PT), select(0), C, [select(1), B], right(10 * PT), C],
+                new_fonts=(AT_10PT, AT_20PT),
+            )
+        ],
+        15 * PT,
+        25 * PT,
+        {
+            100: "9f0a0000 ab 63 8d ac 62 8e 910a0000 63 8c",
+            141: "0001",
+        },
+        116,
+        196,
+    ),
+    "a_box_that_shows_nothing": (
+        [Page([[], right(PT), down(PT), RULE])],
+        PT,
+        2 * PT,
+        {60: "91010000 9f010000 840001000000010000 8c", 103: "0000"},
+        78,
+        120,
+    ),
+    "an_offset": (
+        [Page([right(2 * PT), down(4 * PT), RULE])],
+        4 * PT,
+        3 * PT,
+        {
+            60: "91020000 9f040000 840001000000010000 8c",
+            95: "00040000 00030000",
+        },
+        78,
+        120,
+    ),
+    "a_special_and_a_rule": (
+        [Page([down(PT), special(b"hi"), RULE])],
+        PT,
+        PT,
+        {
+            60: "9f010000 ef02 6869 840001000000010000 8c f8 0000000f",
+            103: "0000 0001 f9 0000004e 02 dfdfdfdfdfdfdf",
+        },
+        78,
+        120,
+    ),
+    "specials_of_255_and_256_bytes": (
+        [Page([special(bytes(255)), special(bytes(256))])],
+        0,
+        0,
+        {60: "efff", 60 + 2 + 255: "f2 00000100"},
+        60 + 257 + 261 + 1,
+        620,
+    ),
+    "shifted_boxes": (
+        [Page([[down(3 * PT), RULE], [], right(4 * PT), down(PT), RULE])],
+        3 * PT,
+        5 * PT,
+        {
+            60: "8d 9f030000 840001000000010000 8e 91040000 9f010000 840001000000010000 8c",
+        },
+        93,
+        132,
+    ),
+    "three_lines": (
+        [
+            Page(
+                [
+                    [down((5 + 12 * at) * PT), *first, C, right(amount), C]
+                    for at, (first, amount) in enumerate(
+                        (([select(0)], 0x3C000), ([], 0x3C000), ([], 0x32000))
+                    )
+                ],
+                new_fonts=(AT_10PT,),
+            )
+        ],
+        29 * PT,
+        901120,
+        {
+            80: "8d 9f050000 ab 63 9103c000 63 8e 8d 9f110000 63 9103c000 63 8e 8d 9f1d0000 63 91032000 63 8e 8c",
+        },
+        118,
+        180,
+    ),
 }
 
 
@@ -67,8 +172,14 @@ def moves(text):
 
 
 BODIES = {
-    "registers_in_and_after_a_group": ("5c5c(5c7c7c)5c7c", "94 05 63 93 63 8d 93 63 99 07 63 98 63 8e 93 63 8f 07 63"),
-    "a_register_that_is_set_again": ("5c7c9c5c7c9c", "94 05 63 99 07 63 94 09 63 8f 05 63 98 63 93 63"),
+    "registers_in_and_after_a_group": (
+        "5c5c(5c7c7c)5c7c",
+        "94 05 63 93 63 8d 93 63 99 07 63 98 63 8e 93 63 8f 07 63",
+    ),
+    "a_register_that_is_set_again": (
+        "5c7c9c5c7c9c",
+        "94 05 63 99 07 63 94 09 63 8f 05 63 98 63 93 63",
+    ),
     "groups_that_hold_nothing": ("(())5c5c", "94 05 63 93 63"),
 }
 
@@ -80,7 +191,7 @@ def file_wrong(pages, height, width, parts, post, length):
         return f"post at {file.post} and not {post}, {len(file.data)} bytes and not {length}"
     for at, text in parts.items():
         must_be = bytes.fromhex(text)
-        if file.data[at:at + len(must_be)] != must_be:
+        if file.data[at : at + len(must_be)] != must_be:
             return f"at {at} is {file.data[at:at + len(must_be)].hex()} and not {must_be.hex()}"
     return None
 
@@ -88,7 +199,11 @@ def file_wrong(pages, height, width, parts, post, length):
 def body_wrong(text, must_be):
     """Returns how the bytes of a body differ from the expected ones, or None."""
     found = spelled(pruned(moves(text)), Registers())
-    return None if found == bytes.fromhex(must_be) else f"the bytes are {found.hex(' ')} and not {must_be}"
+    return (
+        None
+        if found == bytes.fromhex(must_be)
+        else f"the bytes are {found.hex(' ')} and not {must_be}"
+    )
 
 
 def cases(programs, root):

@@ -9,11 +9,23 @@ TITLE = "the kinds of runs with a refused growth, on answers that are written by
 
 FILE = bytes(range(100))
 LINES = ("hbox into 0", "rule 1pt 1pt 0pt", "end", "copy 0", "ship 0", "measure 0", "ship 1")
-REPLIES = {1: "ok", 2: "ok", 3: "packed", 4: "added 1", 5: "shipped 1", 6: "measured void", 7: "shipped 2"}
+REPLIES = {
+    1: "ok",
+    2: "ok",
+    3: "packed",
+    4: "added 1",
+    5: "shipped 1",
+    6: "measured void",
+    7: "shipped 2",
+}
 END = "pages 2 bytes 100"
 SCRIPT = Script("", (), LINES, b"", 0, FILE, (40, 80))
 WHOLE = Answered(REPLIES, END, FILE)
-WITHOUT_COPY = Answered({**{at: it for at, it in REPLIES.items() if at != 4}, 7: "refused 21 VoidBox"}, "pages 1 bytes 60", FILE[:60])
+WITHOUT_COPY = Answered(
+    {**{at: it for at, it in REPLIES.items() if at != 4}, 7: "refused 21 VoidBox"},
+    "pages 1 bytes 60",
+    FILE[:60],
+)
 COPY_REFUSED = {**WITHOUT_COPY.replies, 4: WANTS_MEMORY}
 
 
@@ -42,7 +54,10 @@ RUNS = {
     "a_reply_changed": (run({**REPLIES, 3: "packed too"}, END, FILE), None),
     "a_byte_changed": (run(REPLIES, END, FILE[:-1] + b"x", 0), None),
     "a_command": (run(COPY_REFUSED, "pages 1 bytes 60", FILE[:60]), "c"),
-    "a_command_that_left_a_part": (run({**COPY_REFUSED, 7: "shipped 2"}, "pages 1 bytes 60", FILE[:60]), None),
+    "a_command_that_left_a_part": (
+        run({**COPY_REFUSED, 7: "shipped 2"}, "pages 1 bytes 60", FILE[:60]),
+        None,
+    ),
     "a_command_and_other_bytes": (run(COPY_REFUSED, "pages 1 bytes 60", FILE[:61]), None),
     "a_command_with_status_0": (run(COPY_REFUSED, "pages 1 bytes 60", FILE[:60], 0), None),
     "two_commands": (run({**COPY_REFUSED, 2: WANTS_MEMORY}, "pages 1 bytes 60", FILE[:60]), None),
