@@ -235,9 +235,9 @@ def driver(root, archive, folder):
 
 
 def size_of_client(most, root, _archive, _folder):
-    """The client for Markdown has at most so many lines."""
-    with open(f"{root}/examples/markdown/markdown_page.py", "rb") as it:
-        count = it.read().count(b"\n")
+    """The client for Markdown has at most so many lines. They were 140 of at most 150 columns before
+    black wrote them in 100."""
+    count = len(read(f"{root}/examples/markdown/markdown_page.py").splitlines())
     return None if count <= most else f"it has {count} lines"
 
 
@@ -276,7 +276,7 @@ def cases(programs, root):
         "examples/markdown": partial(client, page_of_markdown, 1),
         "examples/library/svg_pages.py": driver,
         "examples/markdown in 1,000 pages": partial(client, book_of_markdown, 1000),
-        "lines of examples/markdown": partial(size_of_client, 140),
+        "lines of examples/markdown": partial(size_of_client, 166),
     }
     calls |= {f"null pointers in {it}": partial(null_pointers, it) for it in LANGUAGES}
     return [(name, partial(outcome, call, root, *programs)) for name, call in calls.items()]

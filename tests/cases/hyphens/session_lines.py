@@ -8,7 +8,7 @@ ROOT = os.path.dirname(os.path.dirname(os.path.dirname(os.path.dirname(os.path.a
 sys.path[1:1] = [f"{ROOT}/tests", f"{ROOT}/examples/session", f"{ROOT}/examples/layout"]
 
 from asking import Session  # noqa: E402 (after the path)
-from hyphens import Hyphens, Patterns  # noqa: E402
+from hyphens import Hyphens  # noqa: E402
 from models.hyphen_lines import decided_by_tex, difference, rows_of, shown_lines  # noqa: E402
 from models.hyphen_texts import glue_first, paragraphs  # noqa: E402
 
@@ -27,7 +27,8 @@ def main(path, out):
     with open(path, encoding="ascii") as it:
         rows = rows_of(it.read())
     session, texts = Session(out, [f"letters={ROOT}/examples/letters.tfm"]), paragraphs()
-    hyphens = Hyphens(session, Patterns(f"{ROOT}/examples/layout/patterns.tex"))
+    with open(f"{ROOT}/examples/layout/patterns.tex", encoding="utf-8") as it:
+        hyphens = Hyphens(session, it.read())
     session.ask("font 0 letters", "use 0")
     found = [set_row(session, hyphens, texts[row[0]], row) for row in rows]
     session.end()
