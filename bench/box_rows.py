@@ -1,8 +1,9 @@
 #!/usr/bin/env python3
-"""Counts the instructions of boxglue_job_items: bench/box_rows.py ARCHIVE METRICS, where ARCHIVE is the library for C, and METRICS a metric file such as examples/plain.tfm.
+"""Counts the instructions of boxglue_job_items: bench/box_rows.py ARCHIVE METRICS, where ARCHIVE is
+the library for C, and METRICS a metric file such as examples/plain.tfm.
 
-It prints the number of rows of a galley of 100 paragraphs, and the instructions for each row. Two runs under valgrind differ only in that the second lists the galley two more
-times."""
+It prints the number of rows of a galley of 100 paragraphs, and the instructions for each row. Two
+runs under valgrind differ only in that the second lists the galley two more times."""
 import os
 import re
 import subprocess

@@ -1,9 +1,11 @@
 #!/usr/bin/env python3
-"""Compares two programs on random inputs: bench/compare.py PROGRAM OTHER [--scripts N] [--hostile N] [--first N] [--keep FOLDER].
+"""Compares two programs on random inputs: bench/compare.py PROGRAM OTHER [--scripts N] [--hostile
+N] [--first N] [--keep FOLDER].
 
-The inputs are documents (compare_documents.py), always the same ones, and with --hostile also those of bench/trials/hostile.py. Status, answers, messages and files have to be
-equal, and the listings of the files that each program makes. Printed are the inputs that differ, and what the documents had in them; the status is 1 where one
-differs. What --version prints may differ."""
+The inputs are documents (compare_documents.py), always the same ones, and with --hostile also those
+of bench/trials/hostile.py. Status, answers, messages and files have to be equal, and the listings
+of the files that each program makes. Printed are the inputs that differ, and what the documents had
+in them; the status is 1 where one differs. What --version prints may differ."""
 
 import argparse
 import collections
@@ -59,7 +61,8 @@ def differences(rooms, versions, it):
 
 
 def compare(rooms, inputs, kept):
-    """Compares two programs on numbered inputs. Returns how many differ, and what was in the answers."""
+    """Compares two programs on numbered inputs. Returns how many differ, and what was in the
+    answers."""
     versions, wrong, found = (
         [room.run(["--version"]).output for room in rooms],
         0,

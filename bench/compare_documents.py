@@ -1,4 +1,5 @@
-"""Random documents, always the same ones: paragraphs in cmr10 with all kinds of items, under common and odd parameters, in boxes that are split into pages."""
+"""Random documents, always the same ones: paragraphs in cmr10 with all kinds of items, under common
+and odd parameters, in boxes that are split into pages."""
 
 import generator
 from generator import DOCUMENT_SEEDS, NUMBERS, Chance, dimension, words
@@ -10,7 +11,8 @@ SIDES = ("hbox", "vbox", "vtop")
 
 
 class Document:
-    """A script that is being made. Its glue and kerns may be negative in a third of the documents, and half have no narrow lines."""
+    """A script that is being made. Its glue and kerns may be negative in a third of the documents,
+    and half have no narrow lines."""
 
     def __init__(self, chance):
         self.chance, self.lowest, self.narrowest = (
@@ -37,7 +39,8 @@ class Document:
         return "text " + it.pick(("", " ")) + words(it, 12) + it.pick(("", " "))
 
     def box(self, depth=0):
-        """A small box of its own, with a change of the font in it, and now and then a box in that."""
+        """A small box of its own, with a change of the font in it, and now and then a box in
+        that."""
         it = self.chance
         side = it.pick(SIDES)
         self.add(side + it.pick(("", "", " to 30pt", " spread 3pt")))

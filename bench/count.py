@@ -1,9 +1,13 @@
 #!/usr/bin/env python3
-"""Counts the instructions of programs on the bench's work, and their D1 misses, by callgrind: bench/count.py PROGRAM [OTHER] [--items ITEM ..].
+"""Counts the instructions of programs on the bench's work, and their D1 misses, by callgrind:
+bench/count.py PROGRAM [OTHER] [--items ITEM ..].
 
-A D1 miss is a reading or writing that the first cache of data does not have; measure.py fixes the size of this cache.
-With OTHER it counts those of both, and says where the files or answers of the two differ; its status is then 1.
-A count of instructions is the same each time for the same program, work and machine, whatever else runs on the machine."""
+A D1 miss is a reading or writing that the first cache of data does not have; measure.py fixes the
+size of this cache.
+With OTHER it counts those of both, and says where the files or answers of the two differ; its
+status is then 1.
+A count of instructions is the same each time for the same program, work and machine, whatever else
+runs on the machine."""
 
 import argparse
 import hashlib
@@ -17,7 +21,8 @@ from measure import count
 
 
 def counted(program, case, folder):
-    """Millions of instructions and of D1 misses of a run, and a checksum over its status, its answers and the file that it wrote."""
+    """Millions of instructions and of D1 misses of a run, and a checksum over its status, its
+    answers and the file that it wrote."""
     found = count([program, *case.words], case.stdin, folder, case.out)
     checksum = hashlib.sha256(b"%d\n" % found.status + found.answers)
     checksum.update(found.written)

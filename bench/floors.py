@@ -1,9 +1,11 @@
 #!/usr/bin/env python3
 """Compares the programs of bench/floor with boxglue: bench/floors.py [--boxglue PROGRAM].
 
-A floor is a program in C that knows the input of one item and writes the same bytes as boxglue: a limit of what the work needs, without
-refusals, ranges and general lists. Each is built by cc without a warning and run on the item's input. Printed are the instructions and D1 misses
-of both (callgrind), in millions, and boxglue's divided by the floor's. The status is 1 where answers or files differ.
+A floor is a program in C that knows the input of one item and writes the same bytes as boxglue: a
+limit of what the work needs, without refusals, ranges and general lists. Each is built by cc
+without a warning and run on the item's input. Printed are the instructions and D1 misses of both
+(callgrind), in millions, and boxglue's divided by the floor's. The status is 1 where answers or
+files differ.
 bench/run.py measures the floors as peers."""
 
 import argparse

@@ -1,8 +1,11 @@
 #!/usr/bin/env python3
-"""Runs a command, as `rt ci --anew`, and prints the seconds of processor that the prover took: bench/gate_times.py [--every SECONDS] [--write FILE] COMMAND..
+"""Runs a command, as `rt ci --anew`, and prints the seconds of processor that the prover took:
+bench/gate_times.py [--every SECONDS] [--write FILE] COMMAND..
 
-For each crate: its proof, its tests, its edits with the second proof that they begin with, and the dearest edit. It reads /proc a few times a second, so what
-a process did after its last sample is missing. What else the command runs (compilers, programs) is in the total alone. With --write the times by crate go into a table too, as docs/internal/gate.tsv."""
+For each crate: its proof, its tests, its edits with the second proof that they begin with, and the
+dearest edit. It reads /proc a few times a second, so what a process did after its last sample is
+missing. What else the command runs (compilers, programs) is in the total alone. With --write the
+times by crate go into a table too, as docs/internal/gate.tsv."""
 
 import argparse
 import os
@@ -25,7 +28,8 @@ def read(path):
 
 
 def processes():
-    """Each process by its number: its parent's number, and the seconds of processor that it and its ended children took."""
+    """Each process by its number: its parent's number, and the seconds of processor that it and its
+    ended children took."""
     found = {}
     for name in os.listdir("/proc"):
         fields = read("/proc/%s/stat" % name).rpartition(b")")[2].split() if name.isdigit() else []
@@ -35,7 +39,8 @@ def processes():
 
 
 def task(number):
-    """What a process of the prover checks: the crate, and the proof, tests, seed or the number of an edit. None for another process."""
+    """What a process of the prover checks: the crate, and the proof, tests, seed or the number of
+    an edit. None for another process."""
     words = read("/proc/%d/cmdline" % number).decode(errors="replace").split("\0")
     if not words[0].endswith("/rattle") or "--crate-name" not in words:
         return None
@@ -57,7 +62,8 @@ def is_below(number, root, now):
 
 
 class Samples:
-    """The greatest time that was seen of each process that the prover was started as, with those that it started."""
+    """The greatest time that was seen of each process that the prover was started as, with those
+    that it started."""
 
     def __init__(self, root):
         self.root, self.seconds, self.tasks = root, {}, {}
@@ -87,7 +93,8 @@ class Samples:
         return total
 
 
-# The seconds of a crate: of its proof, its tests, and its edits with the second proof, and its dearest edit, as "39 some_name.edit".
+# The seconds of a crate: of its proof, its tests, and its edits with the second proof, and its
+# dearest edit, as "39 some_name.edit".
 Row = namedtuple("Row", "crate proof tests edits dearest")
 
 
@@ -166,7 +173,8 @@ def main():
     begun = time.time()
     running = subprocess.Popen(asked.command)
     samples = Samples(running.pid)
-    # What the command ends with is the gate's answer: a table that cannot be made does not change it.
+    # What the command ends with is the gate's answer: a table that cannot be made does not change
+    # it.
     try:
         while running.poll() is None:
             samples.take()

@@ -1,6 +1,8 @@
-"""All that is random in the trials, from a seed and the same everywhere: numbers, changes of bytes, the words and amounts of scripts, metric files, DVI files and bitmaps.
+"""All that is random in the trials, from a seed and the same everywhere: numbers, changes of bytes,
+the words and amounts of scripts, metric files, DVI files and bitmaps.
 
-What compares two programs, what compares with TeX, and what is hostile take it from here; each has a second number of its own in its seeds."""
+What compares two programs, what compares with TeX, and what is hostile take it from here; each has
+a second number of its own in its seeds."""
 
 import os
 import struct
@@ -66,7 +68,8 @@ class Chance:
 
 
 def other_bytes(chance, data, count, within=None):
-    """Other bytes at this many places, which are among the first ones where it is said how many these are."""
+    """Other bytes at this many places, which are among the first ones where it is said how many
+    these are."""
     data = bytearray(data)
     for _ in range(count if data else 0):
         data[chance.below(min(within or len(data), len(data)))] ^= 1 + chance.below(255)
@@ -157,7 +160,8 @@ def dimension(chance, low, high):
 
 
 def stretch(chance, infinite, low, high):
-    """Stretch or shrink: in the part `infinite` of an infinite order, else between two numbers of points."""
+    """Stretch or shrink: in the part `infinite` of an infinite order, else between two numbers of
+    points."""
     if chance.part(infinite):
         return "%.*f%s" % (
             chance.pick((0, 1, 5)),
@@ -168,7 +172,8 @@ def stretch(chance, infinite, low, high):
 
 
 def glue(chance, width, stretched, shrunk):
-    """Glue of this width; two functions make its stretch and its shrink, each of which may be missing."""
+    """Glue of this width; two functions make its stretch and its shrink, each of which may be
+    missing."""
     return (
         width
         + (" plus " + stretched() if chance.part(0.7) else "")
@@ -182,7 +187,8 @@ WORDS_OF_16 = (0, 1, 2, 3, 255, 256, 257, 32767, 32768, 65535, 65534, 6, 12, 29)
 
 
 def other_lengths(chance, data):
-    """A metric file with other numbers at its beginning; in half of the cases its length is right again, and it has as many bytes."""
+    """A metric file with other numbers at its beginning; in half of the cases its length is right
+    again, and it has as many bytes."""
     data = bytearray(data)
     for _ in range(1 + chance.below(3)):
         at = 2 * chance.below(12)
@@ -273,7 +279,8 @@ def wild_instruction(chance):
 
 
 def framed(chance):
-    """A file with a right frame, and random instructions in its pages: calm ones alone in half of the files."""
+    """A file with a right frame, and random instructions in its pages: calm ones alone in half of
+    the files."""
     fonts = (Font(0, b"tiny"), Font(1, b"tiny", chance.pick((655360, 1, 2**27 - 1, 2**23 + 1))))
     pages, wild = [], chance.one_in(2)
     for at in range(1 + chance.below(3)):

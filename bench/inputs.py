@@ -1,4 +1,5 @@
-"""The inputs of the measurements, always the same: scripts of boxglue, the texts of tex beside them, and a metric file."""
+"""The inputs of the measurements, always the same: scripts of boxglue, the texts of tex beside
+them, and a metric file."""
 
 import os
 import struct
@@ -19,7 +20,8 @@ WORDS = (
     "children carefully followed wondered company railway library station voyage avenue wavering quickly explained"
 )
 
-# The settings with which boxglue and tex do the same work: no hyphenation, no indentation, and the first parameters of boxglue, except the tolerance.
+# The settings with which boxglue and tex do the same work: no hyphenation, no indentation, and the
+# first parameters of boxglue, except the tolerance.
 TEX_HEAD = r"""\batchmode \frenchspacing \hyphenchar\tenrm=-1 \tenrm \parindent0pt \parskip0pt \hsize%s
 \baselineskip12pt \lineskip1pt \lineskiplimit0pt \splittopskip10pt \maxdepth16383pt \splitmaxdepth16383pt \boxmaxdepth16383pt
 \parfillskip0pt plus 1fil \pretolerance100 \tolerance%d \linepenalty10 \adjdemerits10000 \clubpenalty150 \widowpenalty150 \interlinepenalty0
@@ -85,7 +87,8 @@ def chapters():
 
 
 def book(tolerance):
-    """Chapters of paragraphs, each a box that is split into pages; the last page of a chapter is the rest of it."""
+    """Chapters of paragraphs, each a box that is split into pages; the last page of a chapter is
+    the rest of it."""
     box, tex = [BOX_HEAD % ("345pt", tolerance)], [TEX_HEAD % ("345pt", tolerance)]
     words = letters = 0
     for paragraphs in chapters():
@@ -102,7 +105,8 @@ def book(tolerance):
 
 
 def troff_book():
-    """The same chapters for groff, which fills line after line without a tolerance. Its own page length ends a page."""
+    """The same chapters for groff, which fills line after line without a tolerance. Its own page
+    length ends a page."""
     parts = [
         ".pl %s\n.po 0\n.ll 345p\n.ps 10\n.vs 12p\n.ss 12 0\n.ad b\n.nh\n" % PAGE.replace("pt", "p")
     ]
@@ -113,7 +117,8 @@ def troff_book():
 
 
 def places(count, width, total, tolerance, pretolerance):
-    """Paragraphs of a number of legal places each, with about this many places in all: a word is a place."""
+    """Paragraphs of a number of legal places each, with about this many places in all: a word is a
+    place."""
     prose = Prose(2)
     box, tex = [BOX_HEAD % (width, tolerance)], [TEX_HEAD % (width, tolerance)]
     box.append("set pretolerance %d\n" % pretolerance)
@@ -159,7 +164,8 @@ def small_pages(pages, last):
 
 
 def metric_file():
-    """A metric file of 40,000 bytes: 256 characters of their own widths, each with a program of steps for kerns."""
+    """A metric file of 40,000 bytes: 256 characters of their own widths, each with a program of
+    steps for kerns."""
     fixed = lambda value: struct.pack(">i", value)
     length, programs, steps_each = 10000, 128, 60
     characters = [bytes((code % 255 + 1, 0x11, 1, code)) for code in range(256)]
@@ -194,7 +200,8 @@ def font_name(number):
 
 
 def small_metric_file(number):
-    """A metric file in which each of the characters 32 to 126 has one width, which differs from file to file; no kerns and no ligatures."""
+    """A metric file in which each of the characters 32 to 126 has one width, which differs from
+    file to file; no kerns and no ligatures."""
     fixed = lambda parts: struct.pack(">i", parts << 15)
     characters = [bytes([1, 0x11, 0, 0])] * 95
     widths, heights, depths, italics = (
@@ -233,7 +240,8 @@ def pages_of_fonts(pages, loaded):
 
 
 def repeated_pages(dvi, times):
-    """A DVI file with all pages of another and, so many times more, those that come after its first one. A font has to be defined on the first page."""
+    """A DVI file with all pages of another and, so many times more, those that come after its first
+    one. A font has to be defined on the first page."""
     number = lambda place: int.from_bytes(dvi[place : place + 4], "big", signed=True)
     end = len(dvi.rstrip(b"\xdf"))
     post = number(end - 5)
@@ -260,7 +268,8 @@ def repeated_pages(dvi, times):
 
 
 def first_lines(count):
-    """A paragraph of this many places that would fit into one line, in which lines up to the 32nd are counted.
+    """A paragraph of this many places that would fit into one line, in which lines up to the 32nd
+    are counted.
     Each place ends lines from all places before it."""
     head = "set hsize 16383pt\nset firstsize 16383pt\nset firstlines 32\nset pretolerance 10000\n"
     return (
@@ -269,7 +278,8 @@ def first_lines(count):
 
 
 def splits(count, falls):
-    """A box of this many rules, which is split as many times; the widths of the rules stay the same or fall."""
+    """A box of this many rules, which is split as many times; the widths of the rules stay the same
+    or fall."""
     rules = ("rule %dsp 1pt 0pt\nglue 0pt\n" % (count - it if falls else 1) for it in range(count))
     return (
         "set splittopskip 0pt\nvbox into 0\n"
@@ -285,7 +295,8 @@ def long_text(count):
 
 
 def flat_metric_file():
-    """A metric file in which each of the characters 32 to 126 has the width 0, so that any number of them fits on a line."""
+    """A metric file in which each of the characters 32 to 126 has the width 0, so that any number
+    of them fits on a line."""
     fixed = lambda value: struct.pack(">i", value)
     zeros = [fixed(0), fixed(0)]
     parts = [
@@ -331,7 +342,8 @@ def many_glyphs(count):
 
 
 def many_numbers(count):
-    """A DVI file with a page that defines one font under this many numbers, and sets a glyph by each."""
+    """A DVI file with a page that defines one font under this many numbers, and sets a glyph by
+    each."""
     definitions = [font_definition(number) for number in range(count)]
     return one_page(
         b"".join(

@@ -1,6 +1,8 @@
-"""The items of the bench: the work of each, for boxglue and for its peers. docs/SPEED.md has the results.
+"""The items of the bench: the work of each, for boxglue and for its peers. docs/SPEED.md has the
+results.
 
-An item has cases, and a case is one run of boxglue, mostly beside runs of other programs on the same work."""
+An item has cases, and a case is one run of boxglue, mostly beside runs of other programs on the
+same work."""
 
 import os
 import subprocess
@@ -29,8 +31,9 @@ class Peer:
 
 
 class Case:
-    """A run of boxglue with these words, this standard input and the file that it writes, if any; its peers; the unit that it is counted in;
-    whether it is a large one, which is run once and whose output is not kept; and the status that boxglue ends with.
+    """A run of boxglue with these words, this standard input and the file that it writes, if any;
+    its peers; the unit that it is counted in; whether it is a large one, which is run once and
+    whose output is not kept; and the status that boxglue ends with.
     """
 
     def __init__(
@@ -202,7 +205,8 @@ class Work:
         return self.typeset(name, box, *fonts, tex=tex, unit="page", units=pages, **more)
 
     def many_fonts(self):
-        """4,000 pages of which each uses two of 256 loaded fonts, and the same with these fonts alone loaded."""
+        """4,000 pages of which each uses two of 256 loaded fonts, and the same with these fonts
+        alone loaded."""
         for loaded in (2, 256):
             yield self.pages_of_fonts("many_fonts_%d" % loaded, 4000, loaded)
 
@@ -237,7 +241,8 @@ class Work:
             )
 
     def large_list(self):
-        """`list` of the file that `paragraphs` writes, of 1.4 MB, and of files of 14 and 140 MB with its pages again and again."""
+        """`list` of the file that `paragraphs` writes, of 1.4 MB, and of files of 14 and 140 MB
+        with its pages again and again."""
         with open(os.path.join(self.folder, self.made("book.dvi", self.book(200))), "rb") as file:
             dvi = file.read()
         for megabytes, times in ((1, 0), (14, 9), (140, 101)):
@@ -279,7 +284,8 @@ class Work:
                 )
 
     def splits(self):
-        """A box of rules that is split as often, with rules of the same width and of widths that fall."""
+        """A box of rules that is split as often, with rules of the same width and of widths that
+        fall."""
         return self.of_splits(1000, 2000, 4000)
 
     def of_long_text(self, *megabytes, **more):

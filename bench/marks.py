@@ -1,10 +1,12 @@
 #!/usr/bin/env python3
-"""Measures how long all marks of a DVI file take to come into Python: as an array, by `marks` of bindings/python, and as tuples of a listing that is parsed by split and int.
+"""Measures how long all marks of a DVI file take to come into Python: as an array, by `marks` of
+bindings/python, and as tuples of a listing that is parsed by split and int.
 
     bench/marks.py [--library LIBBOXGLUE_SO] [--font CMR10_TFM]
 
-The file is that of the item `paragraphs` at tolerance 200: 280 pages in cmr10, 1,371,324 bytes. Both ways are run five times in turn, and the least time of each counts.
-Both give the same marks, which is tested. The shared object is made by bindings/build."""
+The file is that of the item `paragraphs` at tolerance 200: 280 pages in cmr10, 1,371,324 bytes.
+Both ways are run five times in turn, and the least time of each counts. Both give the same marks,
+which is tested. The shared object is made by bindings/build."""
 
 import argparse
 import os

@@ -1,4 +1,5 @@
-"""Runs programs one at a time: their least processor time, their peak memory, and their instructions."""
+"""Runs programs one at a time: their least processor time, their peak memory, and their
+instructions."""
 
 import ctypes
 import glob
@@ -11,7 +12,8 @@ import tempfile
 
 RUNS = 15
 CORE = max(os.sched_getaffinity(0))
-# A program is started by a small shell and inherited by this process, so that its peak memory is its own and not that of this process.
+# A program is started by a small shell and inherited by this process, so that its peak memory is
+# its own and not that of this process.
 ctypes.CDLL(None).prctl(36, 1, 0, 0, 0)
 
 
@@ -23,7 +25,8 @@ class Cost:
 
 
 def run_once(words, stdin, folder, output="out.txt", wanted=0):
-    """One run of a program on one core, which ends with the wanted status; its output goes to files of the folder, or elsewhere."""
+    """One run of a program on one core, which ends with the wanted status; its output goes to files
+    of the folder, or elsewhere."""
     # The shell ends at once: if it did anything more, it might wait for a short program itself.
     command = "exec taskset -c %d %s < %s > %s 2> err.txt &" % (
         CORE,
@@ -59,7 +62,8 @@ CACHES = "--cache-sim=yes --I1=32768,8,64 --D1=32768,8,64 --LL=8388608,16,64".sp
 
 
 class Counted:
-    """The instructions of a run, its misses of the first cache of data, its output, and the file that it wrote."""
+    """The instructions of a run, its misses of the first cache of data, its output, and the file
+    that it wrote."""
 
     def __init__(self, instructions, misses, status, answers, written):
         self.instructions, self.misses, self.status, self.answers, self.written = (
@@ -83,8 +87,9 @@ def events(path):
 
 
 def count(words, stdin, folder, out=None):
-    """A run under callgrind, with all processes that it starts: it counts the same numbers each time. It works in a folder of its own, with links
-    to the inputs in `folder`, so that several can run at once. `out` is the file that it writes."""
+    """A run under callgrind, with all processes that it starts: it counts the same numbers each
+    time. It works in a folder of its own, with links to the inputs in `folder`, so that several can
+    run at once. `out` is the file that it writes."""
     with tempfile.TemporaryDirectory() as own:
         for name in set(os.listdir(folder)) - {out}:
             os.symlink(os.path.join(folder, name), os.path.join(own, name))

@@ -1,10 +1,13 @@
 #!/usr/bin/env python3
-"""Measures boxglue beside tex, dvitype and dvipng: bench/run.py [--boxglue PROGRAM] [--instructions] [--large] [--data FILE] [ITEM ..], all items if none is named.
+"""Measures boxglue beside tex, dvitype and dvipng: bench/run.py [--boxglue PROGRAM]
+[--instructions] [--large] [--data FILE] [ITEM ..], all items if none is named.
 
-`paragraphs` and `list` also run pdftex, luatex, groff and the programs of bench/floor; those that do not run here are left out, and named.
-The large items, whose cases are run once, are not among these: name them, or take all of them by --large.
-Each case says user + system time (the least of five runs on one core), peak memory, with --instructions also the instructions and D1 misses (by
-callgrind, on all cores before the times are taken), and the ratios to each peer. --data writes all figures of the run into a file, from which
+`paragraphs` and `list` also run pdftex, luatex, groff and the programs of bench/floor; those that
+do not run here are left out, and named. The large items, whose cases are run once, are not among
+these: name them, or take all of them by --large.
+Each case says user + system time (the least of five runs on one core), peak memory, with
+--instructions also the instructions and D1 misses (by callgrind, on all cores before the times are
+taken), and the ratios to each peer. --data writes all figures of the run into a file, from which
 bench/charts.py draws. docs/SPEED.md has the results."""
 
 import argparse
@@ -80,7 +83,8 @@ def runs_of(work, case):
 
 
 def counted(work, cases):
-    """The instructions and D1 misses of each run of each case, by its name. A floor has to write what boxglue writes."""
+    """The instructions and D1 misses of each run of each case, by its name. A floor has to write
+    what boxglue writes."""
 
     def of_case(case):
         found = [
@@ -138,7 +142,8 @@ def growth(first, last):
 
 
 def power(first, last):
-    """The power of the units in which the time or the instructions grow, from one case to a larger one: 1 is linear."""
+    """The power of the units in which the time or the instructions grow, from one case to a larger
+    one: 1 is linear."""
     costs = [it.instructions or it.cost.seconds for it in (first, last)]
     grown = math.log(costs[1] / costs[0]) / math.log(last.case.units / first.case.units)
     return "  from %s to %s: units to the power %.2f" % (first.case.name, last.case.name, grown)

@@ -1,8 +1,10 @@
 #!/usr/bin/env python3
 """Round trips of `boxglue session` by pipes, and its memory: bench/sessions.py PROGRAM [OTHER ..]
 
-Prints for each program, in turns: how many round trips a second a client makes that writes a line and reads its answer before the next; how many lines a second are
-run of a client that writes on while it reads; and the peak memory of the latter. The client is this program, so the figures are of both together."""
+Prints for each program, in turns: how many round trips a second a client makes that writes a line
+and reads its answer before the next; how many lines a second are run of a client that writes on
+while it reads; and the peak memory of the latter. The client is this program, so the figures are of
+both together."""
 import argparse
 import os
 import subprocess
@@ -25,7 +27,8 @@ def start(program, folder):
 
 
 def end(session):
-    """Waits for the end of a session whose input is closed. Returns its peak memory in megabytes."""
+    """Waits for the end of a session whose input is closed. Returns its peak memory in
+    megabytes."""
     _, status, usage = os.wait4(session.pid, 0)
     session.returncode = os.waitstatus_to_exitcode(status)
     if session.returncode:

@@ -1,5 +1,6 @@
 #!/usr/bin/env python3
-"""Writes the figures of runs into the tables of docs/SPEED.md: bench/tables.py [DATA ..] [--page FILE], by default docs/speed.tsv, docs/speed_large.tsv and docs/SPEED.md.
+"""Writes the figures of runs into the tables of docs/SPEED.md: bench/tables.py [DATA ..] [--page
+FILE], by default docs/speed.tsv, docs/speed_large.tsv and docs/SPEED.md.
 
 The table of programs is made anew, with a row for each that the data has.
 In each other table a row is found by its first cell, and by the number of its cells.
@@ -12,7 +13,8 @@ import re
 
 from charts import DOCS, KNOWN, Figures
 
-# How the head of the table of programs begins; its columns, each with the figure in the data and how it is written; and its cases.
+# How the head of the table of programs begins; its columns, each with the figure in the data and
+# how it is written; and its cases.
 PROGRAMS = "| case | program |"
 COSTS = {
     "seconds": ("seconds", lambda value: f"{value:.3f}"),
@@ -108,7 +110,8 @@ def line_of(cells):
 
 
 def worst_cells(figures, name):
-    """The cells of a worst input: what it takes, and the power of its size in which the instructions grow."""
+    """The cells of a worst input: what it takes, and the power of its size in which the
+    instructions grow."""
     case, half = (figures.rows[it]["boxglue"] for it in WORST[name])
     power, units = (math.log(float(case[it]) / float(half[it])) for it in ("instructions", "units"))
     return [totals(case), f"{power / units:.2f}"]

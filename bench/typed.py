@@ -1,7 +1,8 @@
 #!/usr/bin/env python3
-"""Times typed calls: bench/typed.py ARCHIVE, where ARCHIVE is the library for C. For each language it prints a line: microseconds a command by typed calls, and by a text that
-the program makes. In Python the calls are those of a batch, and a third number is the time of one call after the other. In C the third is that of a text for each command.
-Each is the least of some rounds."""
+"""Times typed calls: bench/typed.py ARCHIVE, where ARCHIVE is the library for C. For each language
+it prints a line: microseconds a command by typed calls, and by a text that the program makes. In
+Python the calls are those of a batch, and a third number is the time of one call after the other.
+In C the third is that of a text for each command. Each is the least of some rounds."""
 import os
 import subprocess
 import sys

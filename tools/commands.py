@@ -1,4 +1,5 @@
-"""Commands that take long, as `install` runs them: each in a session of its own, so that a signal ends it with all that it has started. Lines say what runs."""
+"""Commands that take long, as `install` runs them: each in a session of its own, so that a signal
+ends it with all that it has started. Lines say what runs."""
 import contextlib
 import os
 import signal
@@ -26,7 +27,8 @@ printed = [BEGAN]
 
 
 def stop(number, _):
-    """Takes a signal. It raises nothing: an exception from here could leave a lock of `subprocess` taken for ever, so the code asks `go_on` at places of its own."""
+    """Takes a signal. It raises nothing: an exception from here could leave a lock of `subprocess`
+    taken for ever, so the code asks `go_on` at places of its own."""
     signals.append(number)
     end_running()
 
@@ -57,12 +59,14 @@ def is_quiet():
 
 
 def text_of(log):
-    """What is in a log so far. It is read at a place of its own, since the place of the file is where the command writes."""
+    """What is in a log so far. It is read at a place of its own, since the place of the file is
+    where the command writes."""
     return os.pread(log.fileno(), os.fstat(log.fileno()).st_size, 0).decode(errors="replace")
 
 
 def look_at(look):
-    """Calls `look`. Where a line can no longer be printed, what runs is ended, since nothing would wait for it."""
+    """Calls `look`. Where a line can no longer be printed, what runs is ended, since nothing would
+    wait for it."""
     try:
         look()
     except OSError:
@@ -71,7 +75,8 @@ def look_at(look):
 
 
 def run(words, folder, log, look):
-    """Runs a command in a folder, calls `look` each second until it has ended, and returns its status."""
+    """Runs a command in a folder, calls `look` each second until it has ended, and returns its
+    status."""
     with subprocess.Popen(
         words, cwd=folder, stdin=subprocess.DEVNULL, stdout=log, stderr=log, start_new_session=True
     ) as started:
@@ -91,7 +96,8 @@ def run(words, folder, log, look):
 
 
 def done(words, folder, what, end, wrong):
-    """Runs a command, and prints how it ended; a command that fails ends all. Returns what it printed."""
+    """Runs a command, and prints how it ended; a command that fails ends all. Returns what it
+    printed."""
     since = time.monotonic()
 
     def look():

@@ -27,7 +27,8 @@ def exports(root):
 
 
 def home(root, name):
-    """The crate that has a struct, with the module whose folder it is in, and the names and types of its fields."""
+    """The crate that has a struct, with the module whose folder it is in, and the names and types
+    of its fields."""
     for path in sorted(glob.glob(f"{root}/crates/*/src/**/*.rt", recursive=True)):
         found = re.search(STRUCT % name, read(path), flags=re.S)
         if found:
@@ -77,7 +78,8 @@ def lines_of(root, call):
 
 
 def main_of(root):
-    """The lines of the library's crate as those of a program, whose `main` makes each call of the header."""
+    """The lines of the library's crate as those of a program, whose `main` makes each call of the
+    header."""
     body = [
         "let alloc = rt.alloc();",
         "let mut job = boxglue_calls::jobs::JobHandle::null();",

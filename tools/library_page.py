@@ -61,7 +61,8 @@ def escaped(text):
 
 
 def paragraphs(text):
-    """Return a text of the header as roff: paragraphs, and lists whose items begin with a hyphen."""
+    """Return a text of the header as roff: paragraphs, and lists whose items begin with a
+    hyphen."""
     made = []
     for part in re.split(r"\n\s*\n", text.strip()):
         items = re.split(r"^- ", part, flags=re.M)
@@ -71,7 +72,8 @@ def paragraphs(text):
 
 
 def parts(comment):
-    """Return the brief sentence of a comment, what follows it, its parameters, and what it says of the result."""
+    """Return the brief sentence of a comment, what follows it, its parameters, and what it says of
+    the result."""
     text = content(comment)
     text, *tags = re.split(r"^@(?=param|return)", text, flags=re.M)
     brief, _, more = (
@@ -105,7 +107,8 @@ def prototype(result, name, words):
 
 
 def members(body):
-    """Return the members of a struct or an enum as tagged paragraphs; several that share a comment share a paragraph."""
+    """Return the members of a struct or an enum as tagged paragraphs; several that share a comment
+    share a paragraph."""
     found = re.findall(rf"(?:{COMMENT}\s*)?([^;,/]*?)(?:[;,]|\s*$)", body, re.S)
     made = []
     for comment, declared in found:

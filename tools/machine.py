@@ -4,7 +4,8 @@ import os
 import re
 
 GROUP = "/sys/fs/cgroup"
-# Where a control group, in each of its two versions, says how much memory it may hold, and what it holds that cannot be given back.
+# Where a control group, in each of its two versions, says how much memory it may hold, and what it
+# holds that cannot be given back.
 MEMORY = [
     (("memory.max", r"^(\d+)$"), ("memory.stat", r"^anon (\d+)")),
     (("memory/memory.limit_in_bytes", r"^(\d+)$"), ("memory/memory.stat", r"^total_rss (\d+)")),

@@ -5,13 +5,15 @@ import time
 
 from tools.crates import crates_below
 
-# About how long the proofs of a crate take, in seconds: this, and so much for each of its lines. Fitted to docs/internal/gate.tsv.
+# About how long the proofs of a crate take, in seconds: this, and so much for each of its lines.
+# Fitted to docs/internal/gate.tsv.
 CRATE, LINE = 72, 0.011
 # About how long `rt all check` first reads what it will prove, for each crate that no other uses.
 READING = 80
 # What takes no longer was not proved anew.
 SHORT = 10
-# For how many seconds of proofs it trusts these numbers more than what it has seen. The first crates were under way before `rt` told of it.
+# For how many seconds of proofs it trusts these numbers more than what it has seen. The first
+# crates were under way before `rt` told of it.
 TRUSTED = 600
 
 
@@ -46,11 +48,13 @@ class Progress:
             * sum(count_lines(f"{tree}/crates/{it}/{part}") for part in ("src", "specs", "proofs"))
             for it in uses
         }
-        # Whether all is read, when each crate began that is under way, and the seconds of each that has ended.
+        # Whether all is read, when each crate began that is under way, and the seconds of each that
+        # has ended.
         self.is_read, self.since, self.took = False, {}, {}
 
     def update(self, text):
-        """Takes all that was printed so far, and returns the crates that have ended since the last call."""
+        """Takes all that was printed so far, and returns the crates that have ended since the last
+        call."""
         now, ended = time.monotonic(), [
             it for it in sections(text) if it in self.below and it not in self.took
         ]
@@ -63,18 +67,21 @@ class Progress:
         return ended
 
     def under_way(self):
-        """The crates that are being proved. Each worker of `rt all` has a crate, and waits for those below it."""
+        """The crates that are being proved. Each worker of `rt all` has a crate, and waits for
+        those below it."""
         taken = (
             [it for it in self.order if it not in self.took][: self.jobs] if self.is_read else []
         )
         return [it for it in taken if self.took.keys() >= {*self.below[it]}]
 
     def has_library(self, crate):
-        """Whether there is a library of a crate. `rt` removes one that does not fit before it proves the crate, and writes the stamp at the end."""
+        """Whether there is a library of a crate. `rt` removes one that does not fit before it
+        proves the crate, and writes the stamp at the end."""
         return os.path.exists(f"{self.tree}/crates/{crate}/out/rlib/stamp")
 
     def is_kept(self, crate):
-        """Whether a crate need not be proved, as far as one can tell: a library does not fit where one below it is new."""
+        """Whether a crate need not be proved, as far as one can tell: a library does not fit where
+        one below it is new."""
         return self.has_library(crate) and not any(
             it in self.since or self.took.get(it, 0) > SHORT for it in self.below[crate]
         )
@@ -84,7 +91,8 @@ class Progress:
         return [it for it in self.took if it in self.used and not self.has_library(it)]
 
     def seconds_left(self):
-        """About how long it goes on: the rest in the order of `rt all`, where all takes as much longer than its lines say as it did so far."""
+        """About how long it goes on: the rest in the order of `rt all`, where all takes as much
+        longer than its lines say as it did so far."""
         now, anew = time.monotonic(), [it for it, took in self.took.items() if took > SHORT]
         pace = (TRUSTED + sum(map(self.took.get, anew))) / (TRUSTED + sum(map(self.cost.get, anew)))
         ends, workers = dict.fromkeys(self.took, 0), [0] * self.jobs

@@ -1,8 +1,10 @@
 """Proves crates side by side.
 
-Two runs of `rt` in one work tree wait for each other where they share a crate below. So one `rt all check --jobs N` proves the crates, in a tree of its own
-with no other crates: out/proved at the top of the clone. It has copies of their sources. What earlier checks kept of them is moved there, and back at the end,
-whatever the end is, and the tree is removed: `rt ci` refuses a clone with a second crates.txt. After a kill the next run does both."""
+Two runs of `rt` in one work tree wait for each other where they share a crate below. So one `rt all
+check --jobs N` proves the crates, in a tree of its own with no other crates: out/proved at the top
+of the clone. It has copies of their sources. What earlier checks kept of them is moved there, and
+back at the end, whatever the end is, and the tree is removed: `rt ci` refuses a clone with a second
+crates.txt. After a kill the next run does both."""
 import contextlib
 import fcntl
 import os
@@ -26,7 +28,8 @@ def jobs_that_fit():
 
 
 def uses_of(root, names):
-    """The crates that these are built of, and they themselves, the lowest first: each with the crates of the repository that it names."""
+    """The crates that these are built of, and they themselves, the lowest first: each with the
+    crates of the repository that it names."""
     found = libraries(root)
     return {
         crate: [it for it in found[crate] if it in found] for crate in crates_below(found, names)
@@ -61,7 +64,8 @@ def make_tree(root, tree, crates):
 
 @contextlib.contextmanager
 def tree_of(root, crates):
-    """The tree of these crates, with what is kept of them. It is there as long as the `with`, for one process at a time."""
+    """The tree of these crates, with what is kept of them. It is there as long as the `with`, for
+    one process at a time."""
     tree = f"{root}/out/proved"
     os.makedirs(f"{tree}/crates", exist_ok=True)
     with open(f"{root}/out/proved.lock", "w", encoding="ascii") as lock:
@@ -82,7 +86,8 @@ def tree_of(root, crates):
 
 
 def show(progress, text):
-    """Prints a line where crates have ended, and one in ten seconds. A crate that is not proved ends all."""
+    """Prints a line where crates have ended, and one in ten seconds. A crate that is not proved
+    ends all."""
     # It is a second since it was seen, so that all is there that `rt` prints of it.
     if progress.failed():
         end_running()

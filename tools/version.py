@@ -1,15 +1,18 @@
 #!/usr/bin/env python3
-"""The version of boxglue, which is that of include/boxglue.h: 10,000 times its first number, 100 times the second, and the third.
+"""The version of boxglue, which is that of include/boxglue.h: 10,000 times its first number, 100
+times the second, and the third.
 
   tools/version.py          prints it, as 1.1.0
-  tools/version.py 1.2.0    writes it into each place that has it: the program, the library with its clauses, the manual page and the bindings"""
+  tools/version.py 1.2.0    writes it into each place that has it: the program, the library with its
+  clauses, the manual page and the bindings"""
 import os
 import re
 import sys
 
 ROOT = os.path.dirname(os.path.dirname(os.path.abspath(__file__)))
 HEADER, DEFINED = "include/boxglue.h", r"(?<=#define BOXGLUE_VERSION )\d+"
-# Each other place: a file, a pattern of what stands there, and whether that is the dotted text, or the number.
+# Each other place: a file, a pattern of what stands there, and whether that is the dotted text, or
+# the number.
 DOTTED, NUMBER = r"\d+\.\d+\.\d+", r"[1-9][\d_]{4,}"
 PLACES = [
     (HEADER, rf"(?<=the library that this header describes, ){DOTTED}"),

@@ -1,9 +1,13 @@
 #!/usr/bin/env python3
-"""Calls the library from many threads and processes at once: bench/trials/callers_at_once.py --archive LIBBOXGLUE_C [--workers N] [--rounds N] [WAY ..].
+"""Calls the library from many threads and processes at once: bench/trials/callers_at_once.py
+--archive LIBBOXGLUE_C [--workers N] [--rounds N] [WAY ..].
 
-callers_at_once.c says what the ways in C are. Each is built plain, with AddressSanitizer and with ThreadSanitizer, and the plain one runs under valgrind's memcheck, helgrind
-and drd too. The sanitizers see the caller, and the library's calls of malloc and free: its own code has none of their checks. valgrind sees all code.
-The ways in Python are those of python_at_once.py. Printed is a line for each run; the status is 1 where one failed. A tool that is missing says so, and is left out."""
+callers_at_once.c says what the ways in C are. Each is built plain, with AddressSanitizer and with
+ThreadSanitizer, and the plain one runs under valgrind's memcheck, helgrind and drd too. The
+sanitizers see the caller, and the library's calls of malloc and free: its own code has none of
+their checks. valgrind sees all code. The ways in Python are those of python_at_once.py. Printed is
+a line for each run; the status is 1 where one failed. A tool that is missing says so, and is left
+out."""
 
 import argparse
 import os
@@ -52,7 +56,8 @@ def build(archive, folder, name):
 
 
 def commands(archive, folder, way):
-    """The runs of a way in C: the name of what watches it, its command, and how often less it makes its rounds."""
+    """The runs of a way in C: the name of what watches it, its command, and how often less it makes
+    its rounds."""
     for name in BUILDS:
         yield name, [build(archive, folder, name)], 1
     for tool, options in VALGRIND.items():

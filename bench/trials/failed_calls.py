@@ -1,9 +1,12 @@
 #!/usr/bin/env python3
-"""Fails each system call of a run in turn: bench/trials/failed_calls.py [--boxglue PROGRAM] [--closed] [TASK ..]. It needs strace, which makes a call give an error.
+"""Fails each system call of a run in turn: bench/trials/failed_calls.py [--boxglue PROGRAM]
+[--closed] [TASK ..]. It needs strace, which makes a call give an error.
 
-Each task runs a script or reads its file, with --closed also once for each set of standard streams that are closed. Whatever fails, no signal ends it, status 0 is that of a run
-like the one without a failure, and 1 comes with a message, a refusal or an output that failed. Answers differ in refusals alone, and the file is a beginning of the whole one. An
-interrupted reading or writing, and an output that has no room yet, change nothing; where an output fails, the file is whole all the same.
+Each task runs a script or reads its file, with --closed also once for each set of standard streams
+that are closed. Whatever fails, no signal ends it, status 0 is that of a run like the one without a
+failure, and 1 comes with a message, a refusal or an output that failed. Answers differ in refusals
+alone, and the file is a beginning of the whole one. An interrupted reading or writing, and an
+output that has no room yet, change nothing; where an output fails, the file is whole all the same.
 Printed are the runs by task and by what failed; the status is 1 where something is wrong."""
 
 import collections
@@ -29,7 +32,8 @@ TASKS = {
     "fonts": ["fonts", "page.dvi"],
     "paint": [*"paint --page 1 --dpi 72 --width 300 --height 300 page.dvi".split(), FONT],
 }
-# A brk that fails returns the old end of the heap, and no error; the C library compares it with the end that it asked for.
+# A brk that fails returns the old end of the heap, and no error; the C library compares it with the
+# end that it asked for.
 ERRORS = {
     "read": "EIO EINTR EAGAIN EISDIR EBADF",
     "write": "EIO ENOSPC EINTR EAGAIN EPIPE EFBIG EBADF",
@@ -95,7 +99,8 @@ class Traced:
 
 
 def calls_of(lines):
-    """The program's own calls: the name, the first argument, and which call of this name it is, from 1."""
+    """The program's own calls: the name, the first argument, and which call of this name it is,
+    from 1."""
     counts, begun = collections.Counter(), False
     for line in lines:
         found = CALL.match(line)
@@ -108,7 +113,8 @@ def calls_of(lines):
 
 
 def same_answers(output, whole):
-    """Whether answers are those of the whole run, but for refusals; or a beginning of them; or memory was refused for all."""
+    """Whether answers are those of the whole run, but for refusals; or a beginning of them; or
+    memory was refused for all."""
     lines, wholes = LINE.findall(output), LINE.findall(whole)
     return all(
         number == other and (text == its or REFUSED.match(text))

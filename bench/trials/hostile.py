@@ -1,11 +1,15 @@
 #!/usr/bin/env python3
-"""Runs boxglue on hostile inputs: bench/trials/hostile.py [--boxglue PROGRAM] [--count N] [--first N] [--keep FOLDER].
+"""Runs boxglue on hostile inputs: bench/trials/hostile.py [--boxglue PROGRAM] [--count N] [--first
+N] [--keep FOLDER].
 
-The inputs are scripts, sessions by pipes, DVI files, metric files and command lines, the same in every run (hostile_inputs.py). Each is run in a process of its own.
-What it prints, writes and returns has to be of a documented form (hostile_answers.py), that of a session as `typeset` has it (hostile_sessions.py); its file is absent or one that
-`list` reads, no other file is made or changed, and one input in fifty is run a second time.
-Printed are the inputs by kind and by what came of them, the slowest, the greatest memory, and all that is wrong; the status is 1 where something is.
-SIGTERM ends it early. The memory of a run that takes less than this process is known of one input in ten alone."""
+The inputs are scripts, sessions by pipes, DVI files, metric files and command lines, the same in
+every run (hostile_inputs.py). Each is run in a process of its own. What it prints, writes and
+returns has to be of a documented form (hostile_answers.py), that of a session as `typeset` has it
+(hostile_sessions.py); its file is absent or one that `list` reads, no other file is made or
+changed, and one input in fifty is run a second time.
+Printed are the inputs by kind and by what came of them, the slowest, the greatest memory, and all
+that is wrong; the status is 1 where something is. SIGTERM ends it early. The memory of a run that
+takes less than this process is known of one input in ten alone."""
 
 import collections
 import copy
@@ -32,7 +36,8 @@ SECONDS, MEMORY, AGAIN, SHOWN = 60, 2 << 30, 50, 100
 # A shell's background, and nohup, ignore some of these.
 DEFAULT_SIGNALS = (signal.SIGPIPE, signal.SIGXFSZ, *(it for it in SIGNALS if it != signal.SIGKILL))
 STREAMS, ENVIRONMENT = ("given", "output", "errors"), {"LANG": "C.UTF-8"}
-# The shell gives a program in the background another standard input, where none is named. It ends at once, so it cannot wait for the program itself.
+# The shell gives a program in the background another standard input, where none is named. It ends
+# at once, so it cannot wait for the program itself.
 START = '"$@" <&3 3<&- &'
 COMMANDS = (b"typeset", b"session", b"list", b"fonts", b"paint")
 # Where these are written, the answers and the file may be in one place.
@@ -56,7 +61,8 @@ class Room:
                 os.kill(int(pid), signal.SIGKILL)
 
     def fill(self, files):
-        """Makes the folder anew. Beside the files it has a folder, a link to nothing, and a file that cannot be a folder."""
+        """Makes the folder anew. Beside the files it has a folder, a link to nothing, and a file
+        that cannot be a folder."""
         for name in os.listdir("."):
             shutil.rmtree(name) if os.path.isdir(name) and not os.path.islink(name) else os.remove(
                 name
@@ -83,8 +89,9 @@ class Room:
         return room
 
     def run(self, words, given=b"", out=None, small=False):
-        """One run. The peak memory of what this process starts is at least that of this process, so for `small` a small shell starts the program and leaves it to this process.
-        The program gets the signals back that this process, or who started it, ignores."""
+        """One run. The peak memory of what this process starts is at least that of this process, so
+        for `small` a small shell starts the program and leaves it to this process. The program gets
+        the signals back that this process, or who started it, ignores."""
         given_path, output, errors = ("%s/%s" % (self.streams, it) for it in STREAMS)
         self.write(given_path, given)
         actions = [
@@ -141,7 +148,8 @@ class Room:
 
 
 def check_made(room, made, end, pairs, before=None):
-    """A file is whole, and as the end of the answers says; or it is as it was before the run; or the end was refused, and it is a beginning that `list` refuses."""
+    """A file is whole, and as the end of the answers says; or it is as it was before the run; or
+    the end was refused, and it is a beginning that `list` refuses."""
     if end and not end[0]:
         require(
             made == before and not end[1],
@@ -224,7 +232,8 @@ def check_words(room, it, ran):
 
 
 def check_file(it, ran):
-    """Checks what `list`, `paint` or `fonts` says of a file, beside the reader of the tests. Returns what came of it."""
+    """Checks what `list`, `paint` or `fonts` says of a file, beside the reader of the tests.
+    Returns what came of it."""
     data, command = it.files["f.dvi"], it.words[0].encode()
     came = check_reading(ran, len(data), command)
     fonts = {name.removesuffix(".tfm").encode(): font for name, font in it.files.items()}
@@ -240,7 +249,8 @@ def check_file(it, ran):
 
 
 def check_metrics(it, ran):
-    """Checks the answer to the first command, which loads a metric file, beside the reader of the tests."""
+    """Checks the answer to the first command, which loads a metric file, beside the reader of the
+    tests."""
     try:
         metrics = read_metrics(it.files["f.tfm"])
         widths_at(metrics, signed(it.files["f.tfm"][28:32]) // 16)
@@ -270,7 +280,8 @@ def check_folder(room, it):
 
 
 def checked(room, it, number):
-    """Runs an input, again where its number says so, and checks it. Returns the run and what came of it."""
+    """Runs an input, again where its number says so, and checks it. Returns the run and what came
+    of it."""
     if it.kind == "session":
         ran, came = check_session(room, it)
         check_folder(room, it)

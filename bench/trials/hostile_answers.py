@@ -1,4 +1,5 @@
-"""What the program may answer by docs/COMMANDS.md, docs/FORMATS.md and the manual page: the form of every line, and which refusals each command has."""
+"""What the program may answer by docs/COMMANDS.md, docs/FORMATS.md and the manual page: the form of
+every line, and which refusals each command has."""
 
 import os
 import re
@@ -86,7 +87,8 @@ VERSION = re.compile(
 
 
 class Ran:
-    """The end of a run: its status, both outputs, the file that it wrote or None, its seconds of processor, and its greatest memory in bytes."""
+    """The end of a run: its status, both outputs, the file that it wrote or None, its seconds of
+    processor, and its greatest memory in bytes."""
 
     def __init__(self, status, output, errors, made=None, seconds=0.0, memory=0):
         self.status, self.output, self.errors, self.made, self.seconds, self.memory = (
@@ -123,7 +125,8 @@ def command_lines(script):
 
 
 def check_replies(script, replies):
-    """Each command has one reply, and it is one that this command has; a bad line of a session has its refusal."""
+    """Each command has one reply, and it is one that this command has; a bad line of a session has
+    its refusal."""
     commands = list(command_lines(script))
     require(
         len(commands) == len(replies), "%d commands have %d replies", len(commands), len(replies)
@@ -149,7 +152,9 @@ def check_replies(script, replies):
 
 
 def check_run(script, output, is_session=False):
-    """Checks the answers to a script, of a session also those to bad lines. Returns what came of it: bad, refused, accepted; the pages and bytes that the end says, or None; and what comes after the answers."""
+    """Checks the answers to a script, of a session also those to bad lines. Returns what came of
+    it: bad, refused, accepted; the pages and bytes that the end says, or None; and what comes after
+    the answers."""
     bad = None if is_session else BAD_SCRIPT.fullmatch(output.decode("latin-1"))
     if bad:
         require(1 <= int(bad[1]) <= script.count(b"\n") + 1, "the bad line is %s", bad[1])
@@ -226,7 +231,8 @@ CHECKS = {b"list": check_listing, b"paint": check_bitmap, b"fonts": check_fonts}
 
 
 def check_reading(ran, length, command):
-    """Checks a `list`, a `paint` or a `fonts` of a file of this length, or of any. Returns what came of it."""
+    """Checks a `list`, a `paint` or a `fonts` of a file of this length, or of any. Returns what
+    came of it."""
     refused = READING_REFUSED.fullmatch(ran.output.decode("latin-1"))
     if refused:
         require(
@@ -256,7 +262,8 @@ def check_reading(ran, length, command):
 
 
 def check_streams(ran):
-    """Checks what holds for every run: a documented status, and a text where one is promised. Returns the message on standard error, or b""."""
+    """Checks what holds for every run: a documented status, and a text where one is promised.
+    Returns the message on standard error, or b""."""
     require(ran.status in (0, 1, 2), "the status is %d, %r", ran.status, ran.errors[-300:])
     message = ONE_MESSAGE.fullmatch(ran.errors)
     if ran.status == 0:

@@ -1,7 +1,8 @@
-"""Hostile inputs, always the same ones: an input depends on its number, on files of the repository, and on the DVI files that the program makes of good scripts. So each can be
-made again by itself.
+"""Hostile inputs, always the same ones: an input depends on its number, on files of the repository,
+and on the DVI files that the program makes of good scripts. So each can be made again by itself.
 
-Most inputs are good ones with a few changes, since random bytes are refused at the first of them. hostile_scripts.py makes the scripts."""
+Most inputs are good ones with a few changes, since random bytes are refused at the first of them.
+hostile_scripts.py makes the scripts."""
 
 import argparse
 import glob
@@ -40,8 +41,9 @@ def parser_of(about, count=False):
 
 
 class Input:
-    """A run: its kind and the way it was made, its words, what standard input gives, and the files of its folder. `script` is what it runs, `out` where its file goes; `talk`
-    is how a session is written to."""
+    """A run: its kind and the way it was made, its words, what standard input gives, and the files
+    of its folder. `script` is what it runs, `out` where its file goes; `talk` is how a session is
+    written to."""
 
     def __init__(self, kind, way, words, given=b"", files=None, script=None, out=None, talk=None):
         (
@@ -148,7 +150,8 @@ def script_input(chance, good):
 
 
 def session_input(chance, good):
-    """A session with a script; where all of it is written, its file may be one that cannot be made."""
+    """A session with a script; where all of it is written, its file may be one that cannot be
+    made."""
     _, script = any_script(chance, good)
     talk = Talk(chance, script)
     out = chance.pick(ODD_OUTS) if talk.way in WHOLE and chance.one_in(15) else "out.dvi"

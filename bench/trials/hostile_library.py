@@ -1,10 +1,15 @@
 #!/usr/bin/env python3
-"""Calls the library for C on hostile inputs, and compares it with the program: bench/trials/hostile_library.py --archive LIBBOXGLUE_C [--boxglue PROGRAM] [--count N] [--first N].
+"""Calls the library for C on hostile inputs, and compares it with the program:
+bench/trials/hostile_library.py --archive LIBBOXGLUE_C [--boxglue PROGRAM] [--count N] [--first N].
 
-The inputs are the scripts, DVI files and metric files of hostile.py. The caller is that of bindings/c, with AddressSanitizer where the compiler has it: it makes each call
-also with no room and with a byte too little, and fails where a byte outside its buffers is written or memory is not freed.
-A script is run at once and in pieces on a job, each with answers as texts and as numbers; one with bad lines goes line by line to a job, which refuses these alone. A file is
-listed, painted, and asked for its marks and its fonts. The answers and bytes have to be those of the program, the fonts also those of the reader of the tests."""
+The inputs are the scripts, DVI files and metric files of hostile.py. The caller is that of
+bindings/c, with AddressSanitizer where the compiler has it: it makes each call also with no room
+and with a byte too little, and fails where a byte outside its buffers is written or memory is not
+freed.
+A script is run at once and in pieces on a job, each with answers as texts and as numbers; one with
+bad lines goes line by line to a job, which refuses these alone. A file is listed, painted, and
+asked for its marks and its fonts. The answers and bytes have to be those of the program, the fonts
+also those of the reader of the tests."""
 
 import collections
 import os
@@ -41,7 +46,8 @@ def called(room, words):
 
 
 def check_bad_lines(program, library, it, words):
-    """A script with bad lines, line by line on a job. A bad line does not count, so that the lines after it have the numbers that they have without it."""
+    """A script with bad lines, line by line on a job. A bad line does not count, so that the lines
+    after it have the numbers that they have without it."""
     wanted, count, answers = Wanted(program, it, it.script, "out.dvi"), 0, []
     lines = it.script.split(b"\n")
     text = b"".join(
@@ -102,7 +108,8 @@ def check_script(program, library, it):
 
 
 def check_fonts(library, data):
-    """The fonts of a DVI file, beside those of the reader of the tests. The caller prints a name up to a byte 0."""
+    """The fonts of a DVI file, beside those of the reader of the tests. The caller prints a name up
+    to a byte 0."""
     try:
         rows = [(number, *parts_of(fields)) for number, fields in definitions_after(data)]
         wanted = b"0 %d %d\n" % (len(rows), sum(len(name) for _, _, name, *_ in rows))

@@ -110,7 +110,8 @@ def command(chance):
 
 
 def random_script(chance):
-    """Commands in a random order, in most scripts with an open list around them, and few of them wrong in form."""
+    """Commands in a random order, in most scripts with an open list around them, and few of them
+    wrong in form."""
     lines = ["font 0 tiny", "font 1 plain at 7pt", "use 0"]
     for _ in range(1 + chance.below(8 if chance.one_in(2) else 60)):
         lines.append(command(chance))
@@ -144,7 +145,8 @@ def bad_line(chance, line):
 
 
 def changed_script(chance, good):
-    """A good script of which some lines are dropped, repeated, moved, or replaced, or have another number."""
+    """A good script of which some lines are dropped, repeated, moved, or replaced, or have another
+    number."""
     lines = chance.pick(good.scripts).split(b"\n")
     for _ in range(1 + chance.below(6)):
         place, way = chance.below(len(lines)), chance.below(8)
@@ -172,7 +174,8 @@ def changed_script(chance, good):
 
 
 def large_script(chance):
-    """What is much from few bytes, or near a limit: copies of copies, boxes in boxes, long lists, texts and paragraphs."""
+    """What is much from few bytes, or near a limit: copies of copies, boxes in boxes, long lists,
+    texts and paragraphs."""
     way = chance.below(7)
     many = chance.below(9000)
     lines = {

@@ -1,7 +1,10 @@
-"""Sessions among the hostile inputs: how the other side of the pipes behaves, and what has to come of it.
+"""Sessions among the hostile inputs: how the other side of the pipes behaves, and what has to come
+of it.
 
-It writes pieces that are cut anywhere, waits for answers or for nothing, reads late or no longer, ends in a line, is reset, sends after the end, or sends a signal.
-What a session has to answer is what `typeset` answers to the same text in which each bad line is empty, with the refusals of these lines in their places."""
+It writes pieces that are cut anywhere, waits for answers or for nothing, reads late or no longer,
+ends in a line, is reset, sends after the end, or sends a signal. What a session has to answer is
+what `typeset` answers to the same text in which each bad line is empty, with the refusals of these
+lines in their places."""
 
 import fcntl
 import os
@@ -28,7 +31,8 @@ TERMINAL, END_OF_INPUT = 3500, b"\x04"
 
 
 class Talk:
-    """What the other side does: its way, its pieces with a pause before some of them, and numbers and flags that the way takes."""
+    """What the other side does: its way, its pieces with a pause before some of them, and numbers
+    and flags that the way takes."""
 
     def __init__(self, chance, text):
         self.way = chance.pick(WAYS)
@@ -77,7 +81,8 @@ def line_pieces(chance, text):
 
 
 class Wanted:
-    """What has to come of a text: the answers by their lines, the end, the messages, the file and the status, by runs of `typeset` without the bad lines."""
+    """What has to come of a text: the answers by their lines, the end, the messages, the file and
+    the status, by runs of `typeset` without the bad lines."""
 
     def __init__(self, room, it, text, out=None):
         out = out or it.out
@@ -108,7 +113,8 @@ class Wanted:
         return "bad lines" if self.bad else "refused" if self.status else "accepted"
 
     def pages(self):
-        """The bytes of the pages: the file without what follows them, where the end was accepted."""
+        """The bytes of the pages: the file without what follows them, where the end was
+        accepted."""
         made = self.made or b""
         return (
             made[: int.from_bytes(made.rstrip(b"\xdf")[-5:-1], "big")]
@@ -118,8 +124,9 @@ class Wanted:
 
 
 class Partner:
-    """The other side of a session: where it writes and where it reads, each None from when it does so no longer, what it heard, and the peak of the session's memory
-    in bytes before its input ended."""
+    """The other side of a session: where it writes and where it reads, each None from when it does
+    so no longer, what it heard, and the peak of the session's memory in bytes before its input
+    ended."""
 
     def __init__(self, writes, reads):
         self.pid, self.writes, self.reads, self.heard, self.memory = None, writes, reads, b"", 0
@@ -152,7 +159,8 @@ class Partner:
             return b""
 
     def write(self, data, is_late=False):
-        """Writes all of a piece, and reads where there is no room for it; late only after a while."""
+        """Writes all of a piece, and reads where there is no room for it; late only after a
+        while."""
         while data:
             rest = self.write_some(data)
             if rest == data:
@@ -181,7 +189,8 @@ class Partner:
 
 
 def pipe(talk, side):
-    """A pipe whose end at the session, which is read for the side 0, may be small or never wait; the other end never waits for room. Returns the session's end and the other."""
+    """A pipe whose end at the session, which is read for the side 0, may be small or never wait;
+    the other end never waits for room. Returns the session's end and the other."""
     reads, writes = os.pipe()
     if talk.small:
         fcntl.fcntl(writes, fcntl.F_SETPIPE_SZ, SMALL_PIPE)
@@ -193,7 +202,8 @@ def pipe(talk, side):
 
 
 def terminal():
-    """A terminal that changes nothing, and has a byte for the end. Returns the session's end and the other."""
+    """A terminal that changes nothing, and has a byte for the end. Returns the session's end and
+    the other."""
     ours, its = os.openpty()
     os.set_blocking(ours, False)
     modes = termios.tcgetattr(its)
@@ -336,7 +346,8 @@ def require_parts(ran, status, output, errors, made):
 
 
 def check_signal(room, it, ran, wanted):
-    """A session that a signal ends: whole pages up to the last one that was answered, and perhaps a beginning of what came after."""
+    """A session that a signal ends: whole pages up to the last one that was answered, and perhaps a
+    beginning of what came after."""
     talk = it.talk
     answered = wanted.first(talk.lines(talk.at))
     require(ran.status == -talk.number, "the status is %d after signal %d", ran.status, talk.number)
@@ -358,7 +369,8 @@ def check_signal(room, it, ran, wanted):
 
 
 def check_closed(it, ran, wanted):
-    """A session without some of its streams: without an input nothing is run, without an output the answers are lost."""
+    """A session without some of its streams: without an input nothing is run, without an output the
+    answers are lost."""
     closed = it.talk.closed
     errors = b"" if 2 in closed else UNREAD if 0 in closed else wanted.errors
     output = b"" if 0 in closed or 1 in closed else wanted.whole()

@@ -1,10 +1,14 @@
 #!/usr/bin/env python3
-"""Compares boxglue with TeX's programs: bench/trials/outside.py [--boxglue PROGRAM] [--by WAY] [--folder FOLDER] [--notes N] [--seeds N] [PART ..], all parts if none is named.
+"""Compares boxglue with TeX's programs: bench/trials/outside.py [--boxglue PROGRAM] [--by WAY]
+[--folder FOLDER] [--notes N] [--seeds N] [PART ..], all parts if none is named.
 
-Each part prints one line of counts and differences, and below it the causes that are known, and the first N of the others; or which tools it lacks, and then the status is 1.
-With `--by session` scripts are given to `boxglue session` line by line.
-Everything random has a fixed seed. The inputs and outputs stay in FOLDER, if one is named. It needs Debian's packages texlive-base, texlive-latex-base, dvipng, ghostscript and poppler-utils;
-with texlive-fonts-recommended, texlive-latex-recommended, texlive-pictures and texlive-extra-utils it has more metric files and documents. docs/internal/EVIDENCE.md has the results."""
+Each part prints one line of counts and differences, and below it the causes that are known, and the
+first N of the others; or which tools it lacks, and then the status is 1. With `--by session`
+scripts are given to `boxglue session` line by line.
+Everything random has a fixed seed. The inputs and outputs stay in FOLDER, if one is named. It needs
+Debian's packages texlive-base, texlive-latex-base, dvipng, ghostscript and poppler-utils; with
+texlive-fonts-recommended, texlive-latex-recommended, texlive-pictures and texlive-extra-utils it
+has more metric files and documents. docs/internal/EVIDENCE.md has the results."""
 
 import argparse
 import glob
@@ -36,10 +40,12 @@ EXAMPLES = os.path.join(HERE, "../../examples")
 
 
 def documents(work):
-    """DVI files by tex and latex, those of TeX Live, and copies by dvicopy, which has the fonts of virtual ones."""
+    """DVI files by tex and latex, those of TeX Live, and copies by dvicopy, which has the fonts of
+    virtual ones."""
     made, missing = [], []
     for name, (program, text) in DOCUMENTS.items():
-        # References are those of the run before, so a second run makes the file the same in a used folder too.
+        # References are those of the run before, so a second run makes the file the same in a used
+        # folder too.
         for _ in range(2 if "\\tableofcontents" in text or "\\ref" in text else 1):
             work.tex("document_" + name, text, program)
         if os.path.exists(work.path("document_%s.dvi" % name)):
@@ -100,7 +106,8 @@ def example_scripts():
 
 
 def readers(work):
-    """dvitype, dvips with gs, dvipdfmx with pdftoppm, and dvipng on files of boxglue: each takes all pages and says nothing."""
+    """dvitype, dvips with gs, dvipdfmx with pdftoppm, and dvipng on files of boxglue: each takes
+    all pages and says nothing."""
     notes, causes, runs, total = [], Counter(), Counter(), 0
     for name, script in example_scripts():
         file = "reader_%s" % name

@@ -1,7 +1,9 @@
-"""Documents that tex and latex make into DVI files: those of TeX Live, and others with math, rules, pictures, colours, links, and fonts of several kinds.
+"""Documents that tex and latex make into DVI files: those of TeX Live, and others with math, rules,
+pictures, colours, links, and fonts of several kinds.
 
-documents.txt has them, each after its name and its program, `article` for latex with these packages. `<prose SEED COUNT BETWEEN>` stands for paragraphs, `<times COUNT TEXT>` and
-`<each FIRST LAST TEXT>` for a text several times, and `<plain>` for the text below."""
+documents.txt has them, each after its name and its program, `article` for latex with these
+packages. `<prose SEED COUNT BETWEEN>` stands for paragraphs, `<times COUNT TEXT>` and `<each FIRST
+LAST TEXT>` for a text several times, and `<plain>` for the text below."""
 
 import os
 import re

@@ -1,4 +1,5 @@
-"""DVI files: their units and fonts, each page of a book as a bitmap, and a listing of 140 MB; beside dvitype, tftopl and dvipng."""
+"""DVI files: their units and fonts, each page of a book as a bitmap, and a listing of 140 MB;
+beside dvitype, tftopl and dvipng."""
 
 import functools
 import hashlib
@@ -20,7 +21,8 @@ from outside_pages import DOWN, RIGHT, RULE, STEP, Tally, black, by_dvitype
 
 @functools.lru_cache(None)
 def header(path):
-    """Design size in scaled points, rounded down, and check sum of a metric file, as tftopl says them."""
+    """Design size in scaled points, rounded down, and check sum of a metric file, as tftopl says
+    them."""
     text = subprocess.run(
         ["tftopl", path],
         stdin=subprocess.DEVNULL,
@@ -35,7 +37,8 @@ def header(path):
 
 
 def other_fonts(work, name, theirs, fonts):
-    """What `boxglue fonts` says of a file otherwise than dvitype and tftopl; the fonts are words NAME=TFM."""
+    """What `boxglue fonts` says of a file otherwise than dvitype and tftopl; the fonts are words
+    NAME=TFM."""
     paths = {font: work.path(path) for font, _, path in (word.partition("=") for word in fonts)}
     expected = [
         (number, font, size, *header(paths[font])) for number, (font, size) in theirs.fonts.items()
@@ -82,7 +85,8 @@ def nearest(amount):
 
 
 def drawn(rules, side):
-    """The rows of rules in pixels (column and row of the lower left one, height and width), as numbers whose bits are 1 where it is black."""
+    """The rows of rules in pixels (column and row of the lower left one, height and width), as
+    numbers whose bits are 1 where it is black."""
     rows = [0] * side
     for column, row, high, wide in rules:
         first, last = (min(max(it, 0), side) for it in (column, column + wide))
@@ -114,8 +118,9 @@ def painted(rules, dots, side):
 
 
 def dvipng_rules(path, folder, dots):
-    """The rules of each page in pixels, from the steps that dvitype says, as dvipng rounds: a pixel is four times a whole number of scaled points,
-    and a rule in a line moves by its own width in pixels."""
+    """The rules of each page in pixels, from the steps that dvitype says, as dvipng rounds: a pixel
+    is four times a whole number of scaled points, and a rule in a line moves by its own width in
+    pixels."""
     text = subprocess.run(
         ["dvitype", "-output-level=4", path],
         cwd=folder,
@@ -177,7 +182,8 @@ def sheets_script(pages):
 
 
 def sheets(work):
-    """Each page of a book of rules, by `paint`, by dvipng, and by the formula from the places that dvitype says."""
+    """Each page of a book of rules, by `paint`, by dvipng, and by the formula from the places that
+    dvitype says."""
     dots, side, found, notes = 100, 700, Counter(), []
     work.typeset("sheets", sheets_script(280), [])
     work.run(
@@ -222,7 +228,8 @@ class Letters(Chance):
 
 
 def random_files(work):
-    """DVI files of random instructions: whether boxglue and dvitype read them, and what both show."""
+    """DVI files of random instructions: whether boxglue and dvitype read them, and what both
+    show."""
     tally, together, causes, notes = Tally(), Counter(), Counter(), []
     with open(work.path("tiny.tfm"), "wb") as file:
         file.write(TINY)
@@ -259,7 +266,8 @@ def random_files(work):
 
 
 def listed(lines):
-    """The listing that dvitype's lines at level 4 say, of a file that has characters in fonts below 64 and movements alone."""
+    """The listing that dvitype's lines at level 4 say, of a file that has characters in fonts below
+    64 and movements alone."""
     page, font, place = 0, b"", {b"h": b"0", b"v": b"0"}
     for line in lines:
         number, _, step = line.partition(b": ")

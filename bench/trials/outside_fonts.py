@@ -1,4 +1,5 @@
-"""The metric files of TeX Live: whether boxglue, tftopl and tex read them, and what they say of sizes and of ligatures and kerns."""
+"""The metric files of TeX Live: whether boxglue, tftopl and tex read them, and what they say of
+sizes and of ligatures and kerns."""
 
 import os
 import re
@@ -18,7 +19,8 @@ JUNK = "There's some extra junk at the end of the TFM file"
 
 
 class Listing:
-    """What tftopl says of a file: its complaints, the characters, the pairs with a step, and whether there are operations other than kerns and plain ligatures."""
+    """What tftopl says of a file: its complaints, the characters, the pairs with a step, and
+    whether there are operations other than kerns and plain ligatures."""
 
     def __init__(self, path):
         done = subprocess.run(
@@ -228,7 +230,8 @@ def metrics(work):
 
 
 def damaged(work):
-    """Metric files of TeX Live with one byte changed, most of them in the tables that readers check: who reads them."""
+    """Metric files of TeX Live with one byte changed, most of them in the tables that readers
+    check: who reads them."""
     chosen, small = Chance(0, DAMAGE_SEEDS), [
         path for path in files() if os.path.getsize(path) < 3000
     ]

@@ -1,4 +1,5 @@
-"""Random work that boxglue and TeX do alike: a script and a text of TeX, line beside line, from fixed seeds."""
+"""Random work that boxglue and TeX do alike: a script and a text of TeX, line beside line, from
+fixed seeds."""
 
 import generator
 from generator import NUMBERS, TEX_SEEDS, Chance
@@ -6,8 +7,9 @@ from generator import NUMBERS, TEX_SEEDS, Chance
 # The fonts of the scripts: slot, name, and size where it is not the design size.
 FONTS = ((0, "cmr10", None), (1, "cmr10", "7.3pt"), (2, "cmbx12", None), (3, "cmti10", "11.5bp"))
 
-# Plain TeX with the first parameters of boxglue; no hyphens, no indentation, all space factors 1000, and no rule for what is too full.
-# Each answer of boxglue that is compared is written by TeX into a file, in the same words.
+# Plain TeX with the first parameters of boxglue; no hyphens, no indentation, all space factors
+# 1000, and no rule for what is too full. Each answer of boxglue that is compared is written by TeX
+# into a file, in the same words.
 TEX_HEAD = r"""\batchmode \count255=0
 \loop \sfcode\count255=1000 \advance\count255 by 1 \ifnum\count255<256 \repeat
 \newwrite\answers \immediate\openout\answers=\jobname.out
@@ -24,8 +26,10 @@ TEX_HEAD = r"""\batchmode \count255=0
 
 
 class Pair:
-    """A script and a text that say the same. `expected` has, for each answer that TeX gives too, the line of the script and the paragraph on which it depends, if any;
-    `paragraphs` the line of the answer to each paragraph, with its parameters; `kinds` the registers with boxes, and whether they are horizontal.
+    """A script and a text that say the same. `expected` has, for each answer that TeX gives too,
+    the line of the script and the paragraph on which it depends, if any; `paragraphs` the line of
+    the answer to each paragraph, with its parameters; `kinds` the registers with boxes, and whether
+    they are horizontal.
     """
 
     def __init__(self, seed):
@@ -82,7 +86,8 @@ class Pair:
         self.slot = slot
 
     def text(self, text):
-        # The braces keep a step of TeX from looking past the text, and a space from being passed over.
+        # The braces keep a step of TeX from looking past the text, and a space from being passed
+        # over.
         self.add("text " + text, "{}%s{}" % text)
 
     def special(self):
@@ -250,8 +255,9 @@ class Pair:
             self.inner_box(4)
 
     def paragraph(self, number, pieces, kinds):
-        """A paragraph in the open vertical list. TeX says in its log which one it was and how many lines it has; its trace is before that.
-        It is `loose` where a line may have no items: between a place and a later one are glue, kerns and penalties alone.
+        """A paragraph in the open vertical list. TeX says in its log which one it was and how many
+        lines it has; its trace is before that. It is `loose` where a line may have no items:
+        between a place and a later one are glue, kerns and penalties alone.
         """
         self.add("par", "\\noindent")
         chosen = [self.chance.pick(kinds) for _ in range(pieces)]
@@ -321,7 +327,8 @@ def letter(slot):
 
 
 def boxes(seed, count):
-    """Random boxes, each a page: the box of a register itself, or a box around a copy, which leaves it for later boxes."""
+    """Random boxes, each a page: the box of a register itself, or a box around a copy, which leaves
+    it for later boxes."""
     pair = Pair(seed)
     for number in range(count):
         register = 10 + pair.chance.below(6)
@@ -364,8 +371,10 @@ def paragraphs(seed, count, kinds):
 
 
 def long_paragraphs(seed, count):
-    """Paragraphs of hundreds and thousands of places, each a page of its own. Lines are so wide that the height of the box fits.
-    There is no box, and the tolerance takes every line that is not overfull, so that few are in pass 3.
+    """Paragraphs of hundreds and thousands of places, each a page of its own. Lines are so wide
+    that the height of the box fits.
+    There is no box, and the tolerance takes every line that is not overfull, so that few are in
+    pass 3.
     """
     pair = Pair(seed)
     pair.tex.append("\\tracingparagraphs1 ")

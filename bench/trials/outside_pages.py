@@ -6,7 +6,8 @@ import subprocess
 import zlib
 from collections import Counter, namedtuple
 
-# A mark is a glyph (what: font and code), a rule (what: height and width) or a special (what: its text).
+# A mark is a glyph (what: font and code), a rule (what: height and width) or a special (what: its
+# text).
 Mark = namedtuple("Mark", "kind what h v")
 Page = namedtuple("Page", "counts marks")
 
@@ -19,18 +20,21 @@ FONT = re.compile(r"Font (\d+): (.+?)(?: scaled \d+)?---loaded at size (\d+) DVI
 MOST_TEXT = 1 << 28
 UNITS = re.compile(r"numerator/denominator=(\d+)/(\d+)\nmagnification=(\d+);")
 COMPLAINT = re.compile(r"!|invalid|not loaded|beware|Bad DVI")
-# A mark outside the greatest sizes of post is no fault: a box may be wider than its width. dvitype says the same of TeX's file.
+# A mark outside the greatest sizes of post is no fault: a box may be wider than its width. dvitype
+# says the same of TeX's file.
 OUTSIDE = re.compile(r"warning: \|[hv]\|>\d+!")
 
 
 class Reading:
-    """The pages of a file, its fonts by their numbers (name and size), what the reader complained of, and the units (numerator, denominator, magnification) where it says them."""
+    """The pages of a file, its fonts by their numbers (name and size), what the reader complained
+    of, and the units (numerator, denominator, magnification) where it says them."""
 
     def __init__(self, pages, fonts, complaints, units=None):
         self.pages, self.fonts, self.complaints, self.units = pages, fonts, complaints, units
 
     def named(self):
-        """The same pages with the name and the size of a font in the place of its number, since two writers number fonts differently."""
+        """The same pages with the name and the size of a font in the place of its number, since two
+        writers number fonts differently."""
 
         def of(mark):
             return (
@@ -43,7 +47,8 @@ class Reading:
 
 
 def by_dvitype(path, folder):
-    """A reading by dvitype, from its text at level 4. It says each new h and v, so nothing is added up here."""
+    """A reading by dvitype, from its text at level 4. It says each new h and v, so nothing is added
+    up here."""
     # With ten stars dvitype says all ten counts of a page.
     words = ["dvitype", "-output-level=4", "-page-start=" + ".".join("*" * 10), path]
     with subprocess.Popen(
@@ -54,7 +59,8 @@ def by_dvitype(path, folder):
         stderr=subprocess.STDOUT,
     ) as done:
         text = done.stdout.read(MOST_TEXT).decode("latin-1")
-        # After the end of a file dvitype reads zeros, so a special may have as many as its length says.
+        # After the end of a file dvitype reads zeros, so a special may have as many as its length
+        # says.
         if len(text) == MOST_TEXT:
             done.kill()
     pages, fonts, complaints = [], {}, []
@@ -114,7 +120,8 @@ def unescaped(text):
 
 
 def by_boxglue(program, path, folder, fonts):
-    """A reading by `boxglue list` with these words for the fonts; its pages are None where the file is refused."""
+    """A reading by `boxglue list` with these words for the fonts; its pages are None where the file
+    is refused."""
     done = subprocess.run(
         [program, "list", path, *fonts],
         cwd=folder,
@@ -152,7 +159,8 @@ class Tally:
         self.notes.append(text)
 
     def page(self, name, ours, theirs):
-        """Compares the marks of a page in their order, and says whether they are at the same places up to 1 sp."""
+        """Compares the marks of a page in their order, and says whether they are at the same places
+        up to 1 sp."""
         self.seen["page"] += 1
         if ours.counts != theirs.counts:
             self.far["page"] += 1
@@ -225,7 +233,8 @@ class Tally:
 
 
 def black(path):
-    """The width of a picture of dvipng, whose pixels are places in a table of colours, and its rows as numbers whose bits are 1 where it is black."""
+    """The width of a picture of dvipng, whose pixels are places in a table of colours, and its rows
+    as numbers whose bits are 1 where it is black."""
     with open(path, "rb") as file:
         data = file.read()
     parts, at = {}, 8

@@ -1,4 +1,5 @@
-"""Random boxes, splits, paragraphs and pages, by boxglue and by TeX: answers, demerits, and the places of all marks."""
+"""Random boxes, splits, paragraphs and pages, by boxglue and by TeX: answers, demerits, and the
+places of all marks."""
 
 import re
 import sys
@@ -11,7 +12,8 @@ from outside_pages import Tally, by_dvitype
 MOST_DEMERITS = 2**30 - 1
 
 
-# TeX: The Program, 837, takes off from a line what is dropped after its first place, up to the next box, also where the line ends before that.
+# TeX: The Program, 837, takes off from a line what is dropped after its first place, up to the next
+# box, also where the line ends before that.
 LOOSE = (
     "paragraphs with a line without items, which TeX measures by the glue that is dropped after it"
 )
@@ -27,7 +29,8 @@ class Compared:
 
 
 def run_pair(work, name, pair, found):
-    """Runs both, and returns boxglue's answers, the pages of both files by count 0, and the answers that are unequal, with the paragraphs on which they depend."""
+    """Runs both, and returns boxglue's answers, the pages of both files by count 0, and the answers
+    that are unequal, with the paragraphs on which they depend."""
     script, text = pair.script()
     fonts = work.fonts(["cmr10", "cmbx12", "cmti10"])
     answers = work.typeset(name, script, fonts)
@@ -121,7 +124,8 @@ ENDED = re.compile(r"@paragraph (\d+) (\d+)")
 
 
 class Trace:
-    """What TeX's trace says of a paragraph: its lines, the demerits of the list it takes, and badness and demerits of each line, from the last."""
+    """What TeX's trace says of a paragraph: its lines, the demerits of the list it takes, and
+    badness and demerits of each line, from the last."""
 
     def __init__(self, lines, attempt, total, chain):
         self.lines, self.attempt, self.total, self.chain = lines, attempt, total, chain
@@ -155,14 +159,16 @@ def traces(log):
 
 
 def judged(answer, trace, used, found, where):
-    """Compares the answer to a paragraph with TeX's trace; says whether its lines are comparable."""
+    """Compares the answer to a paragraph with TeX's trace; says whether its lines are
+    comparable."""
     lines, decided, overhang, total = map(
         int,
         re.fullmatch(
             r"paragraph lines (\d+) pass (\d) overhang (-?\d+) demerits (-?\d+)", answer
         ).groups(),
     )
-    # Without demerits, a line is one that TeX takes for want of a better one, or the only one that reaches a forced place (TeX: The Program, 854).
+    # Without demerits, a line is one that TeX takes for want of a better one, or the only one that
+    # reaches a forced place (TeX: The Program, 854).
     free = [badness for badness, demerits in trace.chain if demerits == "*"]
     forced = [
         int(badness) for badness in free if badness != "*" and int(badness) <= used["tolerance"]
@@ -223,7 +229,8 @@ def long_paragraphs(work):
 
 
 def broken(work, part, pairs):
-    """What came out of paragraphs that are pages of their own: the pass, the demerits, and the places of all marks."""
+    """What came out of paragraphs that are pages of their own: the pass, the demerits, and the
+    places of all marks."""
     found = Compared()
     for seed, pair in enumerate(pairs, 1):
         name = "%s%d" % (part, seed)
@@ -250,7 +257,8 @@ def broken(work, part, pairs):
 
 
 def pages(work):
-    """Pages of text with specials, split from lists of thirty paragraphs, some with first lines of their own width."""
+    """Pages of text with specials, split from lists of thirty paragraphs, some with first lines of
+    their own width."""
     found = Compared()
     for seed in work.seeds(8):
         name = "pages%d" % seed

@@ -13,7 +13,8 @@ PATIENCE = 120
 
 
 class SessionWork(Work):
-    """Scripts are given to `boxglue session`, each line when the answer to the one before it was read."""
+    """Scripts are given to `boxglue session`, each line when the answer to the one before it was
+    read."""
 
     def typeset(self, name, script, fonts):
         self.put(name + ".box", script)

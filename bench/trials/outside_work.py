@@ -60,14 +60,16 @@ class Work:
         return by_boxglue(self.program, path, self.folder, fonts)
 
     def bitmap(self, path, page, dots, side):
-        """The rows of the bitmap of a page, a square of so many pixels, as numbers whose bits are 1 where it is black."""
+        """The rows of the bitmap of a page, a square of so many pixels, as numbers whose bits are 1
+        where it is black."""
         words = f"paint --page {page} --dpi {dots} --width {side} --height {side}".split()
         text = self.run(self.program, *words, path)[1]
         digits = text.split("\n", 2)[2].replace("\n", "")
         return [int(digits[i * side : (i + 1) * side], 2) for i in range(side)]
 
     def units_and_fonts(self, path, _fonts):
-        """The units of a DVI file (numerator, denominator, magnification), and its fonts: number, name, size, design size and check sum of each."""
+        """The units of a DVI file (numerator, denominator, magnification), and its fonts: number,
+        name, size, design size and check sum of each."""
         units, *lines = [
             line.split() for line in self.run(self.program, "fonts", path)[1].splitlines()
         ]
@@ -84,7 +86,8 @@ class Work:
         return range(1, min(count, self.most_seeds or count) + 1)
 
     def show(self, line, causes, notes):
-        """Prints what came out of a part: the line, the causes that are known, and the first notes."""
+        """Prints what came out of a part: the line, the causes that are known, and the first
+        notes."""
         print(line, flush=True)
         for cause, count in sorted(causes.items()):
             print("    %d: %s" % (count, cause))

@@ -1,11 +1,13 @@
 #!/usr/bin/env python3
-"""Sets all documents of folders through pandoc and examples/pandoc, and prints a table of what came of it by format. With --beside it sets documents by pandoc's LaTeX
-and one run of pdflatex, too, whose text has the same width, and prints a table of both.
+"""Sets all documents of folders through pandoc and examples/pandoc, and prints a table of what came
+of it by format. With --beside it sets documents by pandoc's LaTeX and one run of pdflatex, too,
+whose text has the same width, and prints a table of both.
 
     bench/trials/pandoc_documents.py OUT FOLDER.. [--hyphens FILE] [--most BYTES] [--beside FILE]..
 
-Needs pandoc, dvipdfmx and BOXGLUE_LIBRARY. OUT gets the PDF files, and documents.tsv with a row for each document. A document whose text is above --most bytes is left
-out. It uses one process at a time, so `nice -n 15 taskset -c 0` keeps it out of the way."""
+Needs pandoc, dvipdfmx and BOXGLUE_LIBRARY. OUT gets the PDF files, and documents.tsv with a row for
+each document. A document whose text is above --most bytes is left out. It uses one process at a
+time, so `nice -n 15 taskset -c 0` keeps it out of the way."""
 import argparse
 import collections
 import gzip
@@ -58,7 +60,8 @@ def text_of(path):
 
 
 def run(words, **more):
-    """Runs a program. Returns its status, its output, its errors, its seconds and its most memory in MB; a status of its own where it takes too long."""
+    """Runs a program. Returns its status, its output, its errors, its seconds and its most memory
+    in MB; a status of its own where it takes too long."""
     with subprocess.Popen(
         words,
         stdin=subprocess.PIPE,
@@ -76,7 +79,8 @@ def run(words, **more):
 
 
 def measured(words, source):
-    """Runs a program over a text. Returns its status, its errors, its seconds of processor and its most memory in MB."""
+    """Runs a program over a text. Returns its status, its errors, its seconds of processor and its
+    most memory in MB."""
     with open(f"{source}.said", "wb") as said:
         it = subprocess.Popen(
             words, stdin=subprocess.DEVNULL, stdout=subprocess.DEVNULL, stderr=said

@@ -1,12 +1,16 @@
 #!/usr/bin/env python3
-"""Uses the package for Python from many threads and processes at once: python_at_once.py WAY WORKERS ROUNDS SCRIPT TFM, as callers_at_once.py runs it.
+"""Uses the package for Python from many threads and processes at once: python_at_once.py WAY
+WORKERS ROUNDS SCRIPT TFM, as callers_at_once.py runs it.
 
   threads    threads run all calls, and the lines of one job that they share
-  pools      pools by fork, spawn and forkserver: results, and refusals that are raised, come back as they are here
+  pools      pools by fork, spawn and forkserver: results, and refusals that are raised, come back
+  as they are here
   parts      a process with a job that is half done forks; it and its children make the other half
-  ends       children end inside calls: os._exit, sys.exit, SIGKILL, a daemon thread inside a call at the end; the next pool works
-  interrupts an exception comes at any moment of calls on a job: no byte of its file is lost or comes twice
-  copies     pickles of all protocols, copies and deep copies of what calls give; a job refuses all of them
+  ends       children end inside calls: os._exit, sys.exit, SIGKILL, a daemon thread inside a call
+  at the end; the next pool works interrupts an exception comes at any moment of calls on a job: no
+  byte of its file is lost or comes twice
+  copies     pickles of all protocols, copies and deep copies of what calls give; a job refuses all
+  of them
   views      tables as memoryviews, after all that they came from is dropped
 
 All that comes is compared with what one thread got before."""

@@ -1,10 +1,13 @@
-"""The backend by which pip, build and others make a wheel or a source distribution of this package (PEP 517). It needs neither network nor other packages.
+"""The backend by which pip, build and others make a wheel or a source distribution of this package
+(PEP 517). It needs neither network nor other packages.
 
 A wheel contains the shared object. The backend takes the first of these that is given:
-- the file that the setting `library` names, as in `pip install --config-settings library=PATH bindings/python`;
+- the file that the setting `library` names, as in `pip install --config-settings library=PATH
+  bindings/python`;
 - the file that the variable BOXGLUE_LIBRARY names;
 - libboxglue.so in the package's folder.
-The build fails if none is given, or if the file is not a library of this version. The script bindings/wheel makes the wheel."""
+The build fails if none is given, or if the file is not a library of this version. The script
+bindings/wheel makes the wheel."""
 import gzip
 import importlib.machinery
 import importlib.util
@@ -66,7 +69,8 @@ def _sources():
 
 
 def build_sdist(sdist_directory, config_settings=None):
-    """Writes the source distribution, and returns its name. The same sources give the same bytes. The setting `version` names another version, as of a release without proofs."""
+    """Writes the source distribution, and returns its name. The same sources give the same bytes.
+    The setting `version` names another version, as of a release without proofs."""
     script = _wheel_script()
     version = (config_settings or {}).get("version") or script.package_version()
     name = f"boxglue-{version}"

@@ -1,10 +1,12 @@
 #!/usr/bin/env python3
-"""Sets a book: a table of contents, chapters with running heads, footnotes, and references to pages.
+"""Sets a book: a table of contents, chapters with running heads, footnotes, and references to
+pages.
 
     examples/layout/book.py $cmr10 out/book.dvi < examples/layout/book.txt
 
-`# TITLE` begins a chapter, and each other line is a paragraph, in which `^[TEXT]` is a footnote, and `@[TITLE]` the number of the page where a chapter begins.
-The book is set until the numbers of its pages are those that it was set with, and then once more to ship its pages."""
+`# TITLE` begins a chapter, and each other line is a paragraph, in which `^[TEXT]` is a footnote,
+and `@[TITLE]` the number of the page where a chapter begins. The book is set until the numbers of
+its pages are those that it was set with, and then once more to ship its pages."""
 import re
 import sys
 
@@ -16,7 +18,8 @@ WIDTH, HEIGHT, LINE, FILL = pt(240), pt(140), pt(12), (1, "fil")
 PAGE, FOOT, PARAGRAPH, ROW, FINISHED, NOTE = range(6)
 # All rows of a page are as high and as deep, so no glue is needed between them.
 STRUT, NOTE_STRUT = (0, pt("8.5"), pt("3.5")), (0, pt(7), pt(3))
-# A line that is n scaled points deeper than this has the footnotes up to the n-th. No letter is as deep, and the strut is deeper.
+# A line that is n scaled points deeper than this has the footnotes up to the n-th. No letter is as
+# deep, and the strut is deeper.
 MARK = pt(3)
 # The rule above the footnotes and the glue below it are as high as this.
 NOTES_ROOM = pt(4)
@@ -59,7 +62,8 @@ class Book:
         self.empty()
 
     def row(self, last=0):
-        """Puts the box in ROW on the page, with the footnotes up to this one, or on the next page if there is no room."""
+        """Puts the box in ROW on the page, with the footnotes up to this one, or on the next page
+        if there is no room."""
         notes = range(self.shown + 1, last + 1)
         needed = LINE + sum(self.note_sizes[it - 1] for it in notes)
         if self.used + needed + NOTES_ROOM > HEIGHT:
@@ -85,7 +89,8 @@ class Book:
         return number
 
     def paragraph(self, text):
-        """Sets a paragraph, and takes its lines off one by one: a split to no height takes one line, and tells its depth."""
+        """Sets a paragraph, and takes its lines off one by one: a split to no height takes one
+        line, and tells its depth."""
         with self.job.vbox(into=PARAGRAPH), self.job.par() as par:
             for sign, inner, plain in PARTS.findall(text):
                 if sign == "^":  # a footnote leaves a mark in its line

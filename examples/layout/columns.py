@@ -1,5 +1,6 @@
 #!/usr/bin/env python3
-"""Sets a table whose columns are as wide as their widest cells, and under it a text in balanced columns.
+"""Sets a table whose columns are as wide as their widest cells, and under it a text in balanced
+columns.
 
     examples/layout/columns.py $cmr10 out/columns.dvi"""
 import sys
@@ -58,7 +59,8 @@ def has_room(job, height):
 def balance(job):
     """Finds the least height, in steps of a point, at which the text has room in the columns."""
     with job.vbox(into=TEXT) as box:
-        # What is cut off before the text is split into columns, so that splittopskip is above the first of them too.
+        # What is cut off before the text is split into columns, so that splittopskip is above the
+        # first of them too.
         job.rule(0, 0, 0), job.penalty(-10_000)
         with job.par():
             job.text(" ".join(STORY.split()))
@@ -69,7 +71,8 @@ def balance(job):
 
 
 def columns(job):
-    """A line with the columns. A vtop that begins with a kern has its top on the baseline of the line, so their tops are level."""
+    """A line with the columns. A vtop that begins with a kern has its top on the baseline of the
+    line, so their tops are level."""
     with job.hbox():
         for number in range(COLUMNS):
             with job.vtop():

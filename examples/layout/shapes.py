@@ -1,11 +1,13 @@
 #!/usr/bin/env python3
-"""Sets paragraphs of other shapes than the plain one: ragged, centred, hanging, quoted, and beside a picture on the left and on the right.
+"""Sets paragraphs of other shapes than the plain one: ragged, centred, hanging, quoted, and beside
+a picture on the left and on the right.
 
     examples/layout/shapes.py $cmr10 out/shapes.dvi
 
-A line has no skips beside it. What it shall have at its ends stands between the words: a break drops the glue, kerns and penalties that follow it, up to the next
-box, and keeps what stands before it. So each gap between two words is some items that are together as wide as a space where the line goes on, and are the ends of
-two lines where it is broken."""
+A line has no skips beside it. What it shall have at its ends stands between the words: a break
+drops the glue, kerns and penalties that follow it, up to the next box, and keeps what stands before
+it. So each gap between two words is some items that are together as wide as a space where the line
+goes on, and are the ends of two lines where it is broken."""
 import sys
 from contextlib import contextmanager
 
@@ -35,7 +37,8 @@ def ragged(job):
 
 
 def centred(job):
-    """The same with glue at both ends of a line. It wants a parfillskip of 0pt. An empty box keeps what follows it at the beginning of a line."""
+    """The same with glue at both ends of a line. It wants a parfillskip of 0pt. An empty box keeps
+    what follows it at the beginning of a line."""
     job.hbox().end(), job.glue(0, STRETCH)
     for _ in gaps(job):
         job.penalty(NEVER), job.glue(0, STRETCH), job.penalty(0), job.glue(
@@ -45,7 +48,8 @@ def centred(job):
 
 
 def indented(job, first, others):
-    """Lines that begin with a kern, the first one with a kern of its own. They may be cut into columns and pages as plain ones."""
+    """Lines that begin with a kern, the first one with a kern of its own. They may be cut into
+    columns and pages as plain ones."""
     job.hbox().end(), job.kern(first)
     for _ in gaps(job):
         job.glue(SPACE, pt("1.66666"), pt("1.11111")), job.kern(
@@ -79,7 +83,8 @@ def frame(job, width, height):
 
 
 def beside(job, left, lines=4, size=pt(50), gap=pt(8)):
-    """A picture beside the first lines of a paragraph, which are shorter: they are cut off. With the picture they are one hbox, 3pt deeper than the last baseline in it."""
+    """A picture beside the first lines of a paragraph, which are shorter: they are cut off. With
+    the picture they are one hbox, 3pt deeper than the last baseline in it."""
     job.set(
         hsize=WIDTH,
         parfillskip=Glue(0, FILL),

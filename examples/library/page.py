@@ -1,4 +1,5 @@
-"""Sets a page in the font cmtt10 by typed calls: page.py METRICS OUT. It prints their replies as they come, and writes the DVI file to OUT."""
+"""Sets a page in the font cmtt10 by typed calls: page.py METRICS OUT. It prints their replies as
+they come, and writes the DVI file to OUT."""
 import sys
 from pathlib import Path
 

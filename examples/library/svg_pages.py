@@ -1,9 +1,11 @@
 #!/usr/bin/env python3
-"""A driver: writes each page of a DVI file as an SVG, with a box and its letter for each glyph, through bindings/python.
+"""A driver: writes each page of a DVI file as an SVG, with a box and its letter for each glyph,
+through bindings/python.
 
     examples/library/svg_pages.py out/page.dvi out/page cmr10=$cmr10
 
-It writes out/page-1.svg, out/page-2.svg, and so on. A glyph is as wide as its metric file says; how high it is no mark tells, so its box is as high as an x would be."""
+It writes out/page-1.svg, out/page-2.svg, and so on. A glyph is as wide as its metric file says; how
+high it is no mark tells, so its box is as high as an x would be."""
 import os
 import sys
 from xml.sax.saxutils import escape
@@ -11,7 +13,8 @@ from xml.sax.saxutils import escape
 sys.path.append(f"{os.path.dirname(os.path.abspath(__file__))}/../../bindings/python")
 import boxglue  # noqa: E402 (it is in no folder of Python's)
 
-# A page of DVI has its origin an inch from the left and the top of the paper. Sizes are in TeX's points, 72.27 to an inch.
+# A page of DVI has its origin an inch from the left and the top of the paper. Sizes are in TeX's
+# points, 72.27 to an inch.
 INCH, PAPER = 72.27, (614.3, 794.97)
 BOX = '<rect x="{x:.3f}" y="{y:.3f}" width="{width:.3f}" height="{height:.3f}" {paint}/>'
 LETTER = (

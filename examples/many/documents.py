@@ -1,4 +1,5 @@
-"""The documents of many_documents.py, and what typesets one. Each is a job of its own, so any engine may run them, in any order and anywhere."""
+"""The documents of many_documents.py, and what typesets one. Each is a job of its own, so any
+engine may run them, in any order and anywhere."""
 from __future__ import annotations
 
 from dataclasses import dataclass
@@ -21,7 +22,8 @@ class Outcome:
 
 
 def script(number: int) -> str:
-    """The script of a document: a paragraph whose words depend on the number, on a page that the number counts."""
+    """The script of a document: a paragraph whose words depend on the number, on a page that the
+    number counts."""
     text = " ".join(WORDS[(number * step + step) % len(WORDS)] for step in range(1, 40))
     page = [
         "font 0 cmtt10",

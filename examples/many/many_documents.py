@@ -1,13 +1,15 @@
 #!/usr/bin/env python3
-"""A thousand small documents, each a job of its own: one after the other, through a pool of processes, or through a Dask cluster on this machine.
+"""A thousand small documents, each a job of its own: one after the other, through a pool of
+processes, or through a Dask cluster on this machine.
 
     many_documents.py ENGINE PLAIN_TFM OUT [--count N] [--workers N]
 
-ENGINE is `one`, `pool` or `dask`; all make the same files: OUT/NUMBER.dvi, or OUT/NUMBER.refused with the line of a refusal. How far it is goes to standard
-error. The status is 1 if a document was refused, as document 500 is.
+ENGINE is `one`, `pool` or `dask`; all make the same files: OUT/NUMBER.dvi, or OUT/NUMBER.refused
+with the line of a refusal. How far it is goes to standard error. The status is 1 if a document was
+refused, as document 500 is.
 
-Jobs share nothing, so no engine needs a lock. Processes are started by `spawn`: the library is not called in the child of a process with threads after a
-fork (include/boxglue.h).
+Jobs share nothing, so no engine needs a lock. Processes are started by `spawn`: the library is not
+called in the child of a process with threads after a fork (include/boxglue.h).
 """
 from __future__ import annotations
 
@@ -37,7 +39,8 @@ def pool(count: int, workers: int, fonts: Mapping[str, bytes]) -> Iterator[Outco
 
 
 def dask(count: int, workers: int, fonts: Mapping[str, bytes]) -> Iterator[Outcome]:
-    """The documents as they are ready, from a cluster of processes on this machine, without its dashboard."""
+    """The documents as they are ready, from a cluster of processes on this machine, without its
+    dashboard."""
     from distributed import Client, LocalCluster
     from distributed import as_completed as as_ready
 

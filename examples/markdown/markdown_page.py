@@ -32,7 +32,8 @@ Block = namedtuple("Block", "kind text level label", defaults=("", 0, ""))
 
 
 def read_blocks(text):
-    """The blocks of a text: headings (of a level), paragraphs, rules, and items of lists (with a label, at a depth)."""
+    """The blocks of a text: headings (of a level), paragraphs, rules, and items of lists (with a
+    label, at a depth)."""
     blocks, goes_on = [], False
     for line in text.splitlines():
         begun = LINES.fullmatch(line)
@@ -62,7 +63,8 @@ def spans(text, face):
 
 
 class Galley:
-    """A list of blocks in register 0, from whose top pages are cut. A box may be 16,383pt high, so a
+    """A list of blocks in register 0, from whose top pages are cut. A box may be 16,383pt high, so
+    a
     long text never lies in one."""
 
     def __init__(self, job, names):
@@ -82,7 +84,8 @@ class Galley:
             self.texts.append(it.text(known, encoding=encoding))
 
     def paragraph(self, it, text, width, level=0, face=TEXT):
-        """A paragraph of this width, with struts: lines are as far apart between blocks as in one."""
+        """A paragraph of this width, with struts: lines are as far apart between blocks as in
+        one."""
         line = SIZES[level][1]
         strut = 0, line * 7 // 10, line * 3 // 10
         it.set(hsize=width, baselineskip=line)
@@ -90,7 +93,8 @@ class Galley:
             it.rule(*strut), self.text(it, text, level, face), it.rule(*strut)
 
     def item(self, it, block, left):
-        """An item: its label in a box that ends at the indent, and its text in a vtop, so that their
+        """An item: its label in a box that ends at the indent, and its text in a vtop, so that
+        their
         first baselines are one."""
         with it.hbox():
             with it.hbox(to=left):
@@ -101,7 +105,8 @@ class Galley:
                 self.paragraph(it, block.text, WIDTH - left)
 
     def block(self, block, before, indent):
-        """Puts a block at the end of the list. Pages are shipped while it is higher than two, so that
+        """Puts a block at the end of the list. Pages are shipped while it is higher than two, so
+        that
         breaks are chosen among all places of a page."""
         with self.job.batch() as it, it.vbox(into=0) as box:
             it.unvbox(0)

@@ -1,7 +1,8 @@
 #!/usr/bin/env python3
 """Sets an article in pages, in one run of `boxglue session`: article.py OUT.dvi TFM < article.txt
 
-Each line of the text is a paragraph, and goes to the end of a galley. Whenever the galley is as high as a page, a page is cut off its top and shipped."""
+Each line of the text is a paragraph, and goes to the end of a galley. Whenever the galley is as
+high as a page, a page is cut off its top and shipped."""
 import sys
 
 from asking import Session, scaled
@@ -16,7 +17,8 @@ def galley_height(session):
 
 
 def ship_pages(session, page, least):
-    """Ships pages, numbered from the next of `page` on, while the galley has this height. Returns the number of the last one."""
+    """Ships pages, numbered from the next of `page` on, while the galley has this height. Returns
+    the number of the last one."""
     while galley_height(session) >= least:
         page += 1
         foot = [

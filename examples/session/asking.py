@@ -3,12 +3,14 @@ import subprocess
 import sys
 
 POINT = 65536
-# So many commands go out before their answers are read. A pipe holds the answers to more: where it is full, the session waits, and reads no command.
+# So many commands go out before their answers are read. A pipe holds the answers to more: where it
+# is full, the session waits, and reads no command.
 MOST = 256
 
 
 def scaled(points):
-    """The scaled points of a dimension in an answer, as `12.5pt`: its decimals tell all of them apart."""
+    """The scaled points of a dimension in an answer, as `12.5pt`: its decimals tell all of them
+    apart."""
     return round(float(points.removesuffix("pt")) * POINT)
 
 
@@ -43,7 +45,8 @@ class Session:
         return [it[1:] for it in answers]
 
     def pack(self, register, opening, *items):
-        """Packs items into a register; `opening` is as `vbox` or `hbox to 20pt`. Returns the width, the height and the depth of the box in scaled points."""
+        """Packs items into a register; `opening` is as `vbox` or `hbox to 20pt`. Returns the width,
+        the height and the depth of the box in scaled points."""
         *_, packed = self.ask(f"{opening} into {register}", *items, "end")
         return [scaled(it) for it in packed[1:4]]
 

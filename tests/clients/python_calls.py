@@ -1,5 +1,6 @@
-"""A program that makes the calls of bindings/python on inputs that are files, with the words and the output of bindings/c/library_calls.c: the calls on standard input, a list of
-words in JSON for each, one after the other."""
+"""A program that makes the calls of bindings/python on inputs that are files, with the words and
+the output of bindings/c/library_calls.c: the calls on standard input, a list of words in JSON for
+each, one after the other."""
 import json
 import sys
 

@@ -1,4 +1,5 @@
-"""A case of tests/cases/program: a folder with the command line of a run, and its expected results. tests/CASES.md has its files."""
+"""A case of tests/cases/program: a folder with the command line of a run, and its expected results.
+tests/CASES.md has its files."""
 import os
 import shutil
 import subprocess
@@ -61,7 +62,8 @@ def command(case, program):
 
 
 def run(case, program, root):
-    """Runs the program on a case. Returns its status, its standard output, its standard error, and the first file of made/
+    """Runs the program on a case. Returns its status, its standard output, its standard error, and
+    the first file of made/
     that is wrong, if one is."""
     how = {
         "input": input_of(case, root),

@@ -1,4 +1,5 @@
-"""Fresh systems of Debian: a folder that debootstrap has made, below a layer of its own for each use, in which commands run without network.
+"""Fresh systems of Debian: a folder that debootstrap has made, below a layer of its own for each
+use, in which commands run without network.
 
 A system is kept in the folder of caches, since it is downloaded: for some minutes, once."""
 import fcntl
@@ -13,7 +14,8 @@ from common.outcome import Skipped, without
 from common.running import finished
 
 MIRROR = "http://deb.debian.org/debian"
-# A system with an older glibc, in which there is nothing but what Debian always has; and one with what programs are built with.
+# A system with an older glibc, in which there is nothing but what Debian always has; and one with
+# what programs are built with.
 OLD, TOOLS = "bullseye", "trixie"
 PACKAGES = {
     OLD: [],
@@ -64,7 +66,8 @@ def made(suite, path):
 
 @functools.lru_cache(None)
 def system(suite):
-    """The folder of a system, or why there is none: without debootstrap, without the rights of root or without network it cannot be made."""
+    """The folder of a system, or why there is none: without debootstrap, without the rights of root
+    or without network it cannot be made."""
     if not shutil.which("debootstrap") or os.geteuid() != 0:
         return without("debootstrap")
     path = f"{cache()}/{suite}-{hashlib.sha256(' '.join(PACKAGES[suite]).encode()).hexdigest()[:8]}"
@@ -75,7 +78,8 @@ def system(suite):
 
 
 def run_in(suite, script, given):
-    """Runs commands of a shell in a fresh system. It has these files below /given, and no network. Returns what the commands print, or why the system is not there."""
+    """Runs commands of a shell in a fresh system. It has these files below /given, and no network.
+    Returns what the commands print, or why the system is not there."""
     folder = system(suite)
     if isinstance(folder, Skipped):
         return folder

@@ -114,7 +114,8 @@ def lanes():
 
 
 def pairs_of(part, programs, root):
-    """The cases of a part. If they cannot be made, or names are missing or equal, one case that fails."""
+    """The cases of a part. If they cannot be made, or names are missing or equal, one case that
+    fails."""
     why = None
     try:
         pairs = list(part.cases(programs, root))
@@ -132,7 +133,8 @@ def pairs_of(part, programs, root):
 
 
 def programs_of(part, built, root):
-    """The programs over which a part runs. What it needs and was not given is built without proofs: the library, and the program where no program was given."""
+    """The programs over which a part runs. What it needs and was not given is built without proofs:
+    the library, and the program where no program was given."""
     given, is_given = built.get(part.program, []), any(built.values())
     if part.program == "library" and not lacking():
         return [
@@ -145,7 +147,8 @@ def programs_of(part, built, root):
 
 
 def pieces_of(part, pairs, built):
-    """The cases of a part in pieces that run side by side: one piece if one run of `rt try` gives the results of all."""
+    """The cases of a part in pieces that run side by side: one piece if one run of `rt try` gives
+    the results of all."""
     return (
         part.split(pairs)
         if part.split and (any(built.values()) or part.needs_program or not part.tries)
@@ -154,7 +157,8 @@ def pieces_of(part, pairs, built):
 
 
 def run_piece(part, piece, built, root, say):
-    """Runs the cases of a piece of a part in turn, or, if nothing is built yet, in one run of `rt try` that gives the results of all."""
+    """Runs the cases of a piece of a part in turn, or, if nothing is built yet, in one run of `rt
+    try` that gives the results of all."""
     result, why, programs = Result(), None, []
     say("waits for what it runs")
     try:
@@ -176,7 +180,8 @@ def run_piece(part, piece, built, root, say):
 
 
 def work(parts, jobs, events, built, root):
-    """What a process does: pieces of parts, each by the number of its part and its own, until there are none."""
+    """What a process does: pieces of parts, each by the number of its part and its own, until there
+    are none."""
     for at, piece in iter(jobs.get, None):
         events.put(
             (
@@ -203,7 +208,8 @@ def lines_of(part, result, seconds):
 
 
 def end_part(part, result, in_gate, root, progress):
-    """Prints the results of a part, and returns them. In the gate a case that is skipped for want of anything but a listed tool has failed."""
+    """Prints the results of a part, and returns them. In the gate a case that is skipped for want
+    of anything but a listed tool has failed."""
     if in_gate:
         wrong = outside_tools.others(result.skipped, root)
         result = Result(
@@ -215,7 +221,8 @@ def end_part(part, result, in_gate, root, progress):
 
 
 def heard(parts, counts, events, in_gate, root, workers):
-    """Prints what the processes say until the last one has ended. Returns the results of the parts."""
+    """Prints what the processes say until the last one has ended. Returns the results of the
+    parts."""
     found, left, over = [Result() for _ in parts], dict(enumerate(counts)), 0
     with Progress(len(parts), workers) as progress:
         while over < len(workers):

@@ -1,6 +1,7 @@
 """Writes its standard input to its standard output in pieces: `feeder.py lines|bytes|uneven`.
 
-It is a process of its own, since a thread that writes many small pieces waits for the interpreter at each of them while another part computes."""
+It is a process of its own, since a thread that writes many small pieces waits for the interpreter
+at each of them while another part computes."""
 import os
 import sys
 import time

@@ -11,7 +11,8 @@ def read(path):
 
 @functools.lru_cache(None)
 def source(path):
-    """The text of a file of the repository, which is read once. Bytes that are no text are replaced."""
+    """The text of a file of the repository, which is read once. Bytes that are no text are
+    replaced."""
     with open(path, encoding="utf-8", errors="replace") as it:
         return it.read()
 

@@ -1,5 +1,6 @@
-"""Builds what calls the library for C: the program of bindings/c, where the compiler has it with AddressSanitizer, and the shared object of bindings/build; and the program
-and the library without proofs."""
+"""Builds what calls the library for C: the program of bindings/c, where the compiler has it with
+AddressSanitizer, and the shared object of bindings/build; and the program and the library without
+proofs."""
 import glob
 import os
 import shutil
@@ -104,7 +105,8 @@ def build_shared(root, archive):
 
 
 def build_unproved(root, kind):
-    """The path of the program or of the archive of the library without proofs, which is built once."""
+    """The path of the program or of the archive of the library without proofs, which is built
+    once."""
 
     def make(out):
         status, _, errors = run_tried(

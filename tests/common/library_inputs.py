@@ -1,4 +1,5 @@
-"""What the library for C is called on: the scripts of examples/, and cases of crates/rows_scripts."""
+"""What the library for C is called on: the scripts of examples/, and cases of
+crates/rows_scripts."""
 import functools
 import glob
 import os
@@ -88,7 +89,8 @@ def font_files(text):
 
 
 def case_wanted(block):
-    """What the file of answers has for a case: the answers, the bytes as digits, and whether all was accepted."""
+    """What the file of answers has for a case: the answers, the bytes as digits, and whether all
+    was accepted."""
     *lines, accepted = block.splitlines()
     ends = next((at for at, it in enumerate(lines, 1) if it.startswith(b"end: ")), len(lines))
     digits = b"".join(it for it in lines[ends:] if HEX_LINE.fullmatch(it))
@@ -101,7 +103,8 @@ def case_wanted(block):
 
 @functools.lru_cache(None)
 def rows(root):
-    """The file of cases of crates/rows_scripts: its font files, and the lines of each case by its name."""
+    """The file of cases of crates/rows_scripts: its font files, and the lines of each case by its
+    name."""
     text = read(f"{root}/crates/rows_scripts", "stdin")
     pieces = re.split(rb"^case (.*)\n", text, flags=re.M)
     return font_files(text), {
@@ -135,7 +138,8 @@ def all_case_inputs(root):
 
 
 def answers_to_each(root):
-    """The cases each of whose lines is a script: their lines, with the cause of each that is bad."""
+    """The cases each of whose lines is a script: their lines, with the cause of each that is
+    bad."""
     for name, body in rows(root)[1].items():
         if b"each" in body:
             found = re.split(rb"^[|\\](.*)\n", row_answers(root)[name], flags=re.M)
@@ -169,7 +173,8 @@ class Room:
 
 @functools.lru_cache(None)
 def printed_by(program, root, name):
-    """What a built program gives for an input: for its run, and for the listing and a bitmap of its file where it has one."""
+    """What a built program gives for an input: for its run, and for the listing and a bitmap of its
+    file where it has one."""
     given = next(it for it in all_inputs(root) if it.name == name)
     with tempfile.TemporaryDirectory(prefix="boxglue-library-") as path:
         room = Room(path, given)

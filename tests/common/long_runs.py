@@ -1,4 +1,5 @@
-"""Runs of a program with inputs and outputs of any size: fed from a file or a pipe, in pieces; the output is read as it comes."""
+"""Runs of a program with inputs and outputs of any size: fed from a file or a pipe, in pieces; the
+output is read as it comes."""
 import fcntl
 import os
 import resource
@@ -30,10 +31,13 @@ class Run:
     """A run of the program, and its expected results.
 
     stdin    the bytes of standard input, or the name of a file in the folder
-    feed     the pieces in which these bytes are written into a pipe, a name of feeder.py; by default standard input is a file
-    slowly   standard output is a small pipe that is read slowly, by a reader that stops the program now and then
+    feed     the pieces in which these bytes are written into a pipe, a name of feeder.py; by
+    default standard input is a file
+    slowly   standard output is a small pipe that is read slowly, by a reader that stops the program
+    now and then
     stdout   the blocks of the expected output
-    made     the files that must then be in the folder, by name; None if there must be none with this name
+    made     the files that must then be in the folder, by name; None if there must be none with
+    this name
     memory   the most bytes of addresses that the program may have; None for any number"""
 
     words: tuple = ()
@@ -98,7 +102,8 @@ class Comparison:
 
 
 def fed(data, how):
-    """The reading end of a pipe into which a process writes pieces of bytes, and the process. The pipe keeps them apart: each read gets one."""
+    """The reading end of a pipe into which a process writes pieces of bytes, and the process. The
+    pipe keeps them apart: each read gets one."""
     output, end = os.pipe2(os.O_CLOEXEC | os.O_DIRECT)
     try:
         with tempfile.TemporaryFile() as it:
@@ -111,7 +116,8 @@ def fed(data, how):
 
 
 def stopped_and_continued(process):
-    """Stops a program and continues it: a call in which it waits is interrupted, and a write that has taken a part returns the size of that part."""
+    """Stops a program and continues it: a call in which it waits is interrupted, and a write that
+    has taken a part returns the size of that part."""
     try:
         os.kill(process.pid, signal.SIGSTOP)
         os.waitid(os.P_PID, process.pid, os.WSTOPPED | os.WEXITED | os.WNOWAIT)
@@ -121,7 +127,8 @@ def stopped_and_continued(process):
 
 
 def pieces_of(output, slowly, process, until):
-    """The output of a pipe, piece by piece, up to its end, or up to a point in time at which the program is killed."""
+    """The output of a pipe, piece by piece, up to its end, or up to a point in time at which the
+    program is killed."""
     count = 0
     while select.select([output], [], [], max(0, until - time.monotonic()))[0]:
         piece = os.read(output, 1500 if slowly else 1 << 20)
@@ -160,7 +167,8 @@ def compared(run, process, output):
 
 
 def started(program, run, folder, errors):
-    """Starts a program. Returns its process, the reading end of its standard output, and the process that feeds it, if one does."""
+    """Starts a program. Returns its process, the reading end of its standard output, and the
+    process that feeds it, if one does."""
     source, feeder = opened_input(run, folder)
     output, end = os.pipe2(os.O_CLOEXEC)
     if run.slowly:
@@ -185,7 +193,8 @@ def started(program, run, folder, errors):
 
 
 def ended(program, run, folder):
-    """Runs a program, and returns its status, what is wrong with its output, and its standard error."""
+    """Runs a program, and returns its status, what is wrong with its output, and its standard
+    error."""
     with tempfile.TemporaryFile() as errors:
         process, output, feeder = started(program, run, folder, errors)
         try:

@@ -24,7 +24,8 @@ def require(holds, why):
 
 
 def without(tool):
-    """The result of a case for which this tool has to be there, and is not. docs/internal/GATE.md lists the tool: the gate lets no other case be skipped."""
+    """The result of a case for which this tool has to be there, and is not. docs/internal/GATE.md
+    lists the tool: the gate lets no other case be skipped."""
     return Skipped(f"no {tool}")
 
 
@@ -41,7 +42,8 @@ def need(*tools):
 
 
 def attempt(call):
-    """The result of a case: None, a Skipped, or a text about what is wrong, as which an exception counts."""
+    """The result of a case: None, a Skipped, or a text about what is wrong, as which an exception
+    counts."""
     try:
         return call()
     except Skipped as skipped:
@@ -53,7 +55,8 @@ def attempt(call):
 
 
 def on_each(programs, call):
-    """Does a call with each program. Returns what is wrong, after the name of the program, or a Skipped, or None."""
+    """Does a call with each program. Returns what is wrong, after the name of the program, or a
+    Skipped, or None."""
     found = [(os.path.basename(it), attempt(lambda it=it: call(it))) for it in programs]
     skipped = next((why for _, why in found if isinstance(why, Skipped)), None)
     return skipped or "; ".join(f"{name}: {why}" for name, why in found if why) or None

@@ -1,4 +1,5 @@
-"""Small libraries that are put before a built program by LD_PRELOAD, and make some of its calls fail: the files *.c of this folder that say so."""
+"""Small libraries that are put before a built program by LD_PRELOAD, and make some of its calls
+fail: the files *.c of this folder that say so."""
 import functools
 import os
 import shutil

@@ -1,9 +1,11 @@
-"""The output while the parts run: a line when something ends, and one every ten seconds while nothing does."""
+"""The output while the parts run: a line when something ends, and one every ten seconds while
+nothing does."""
 import os
 import threading
 import time
 
-# The longest time without a line, in seconds; and the time of a case after which it hangs, which is more than a build by `rt try` takes.
+# The longest time without a line, in seconds; and the time of a case after which it hangs, which is
+# more than a build by `rt try` takes.
 EVERY, LIMIT = 10, 1800
 
 
@@ -32,7 +34,8 @@ class Progress:
             print(f"[{spent // 60:2}:{spent % 60:02}] {text}", flush=True)
 
     def step(self, part, piece, what):
-        """Sets what a piece of a part is doing; None if it has ended. The same text again changes nothing."""
+        """Sets what a piece of a part is doing; None if it has ended. The same text again changes
+        nothing."""
         with self.lock:
             self.starts.setdefault(part, time.monotonic())
             if what is None:
@@ -57,7 +60,8 @@ class Progress:
         return f"{self.done} of {self.count} parts done; running: {', '.join(running) or 'none'}"
 
     def wrong(self):
-        """What has gone wrong with the processes: one has ended early, or has a case that takes too long."""
+        """What has gone wrong with the processes: one has ended early, or has a case that takes too
+        long."""
         with self.lock:
             late = [
                 f"no end after {LIMIT} s: {part}: {what}"
@@ -69,7 +73,8 @@ class Progress:
         ]
 
     def tick(self):
-        """Prints the state if nothing was printed for a while. Ends all if a case hangs or a process is lost."""
+        """Prints the state if nothing was printed for a while. Ends all if a case hangs or a
+        process is lost."""
         while not self.ended.wait(1):
             if wrong := self.wrong():
                 self.say(f"FAILED: {', '.join(wrong)}")

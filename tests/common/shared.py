@@ -14,7 +14,8 @@ class Unbuilt(Exception):
 
 @functools.lru_cache(None)
 def folder():
-    """The folder, which is removed at the end of the process that asks first: tests/run does before it starts others."""
+    """The folder, which is removed at the end of the process that asks first: tests/run does before
+    it starts others."""
     room = tempfile.mkdtemp(prefix="boxglue-run-")
     atexit.register(shutil.rmtree, room, ignore_errors=True)
     return room
@@ -27,7 +28,8 @@ def own_folder():
 
 
 def once(name, make):
-    """The path of what `make` makes at a path, or its Unbuilt. The first process or thread that asks makes it, and the others wait for it."""
+    """The path of what `make` makes at a path, or its Unbuilt. The first process or thread that
+    asks makes it, and the others wait for it."""
     path = f"{folder()}/{name}"
     with open(f"{path}.lock", "a+", encoding="utf-8") as lock:
         fcntl.flock(lock, fcntl.LOCK_EX)

@@ -26,6 +26,7 @@ def last_lines(text, count=3):
 
 
 def blocks(text):
-    """The texts after lines `== NAME`, by their names; the name is empty for the text before the first."""
+    """The texts after lines `== NAME`, by their names; the name is empty for the text before the
+    first."""
     pieces = re.split(rb"^== (.*)\n", text, flags=re.M)
     return {b"": pieces[0], **dict(zip(pieces[1::2], pieces[2::2]))}

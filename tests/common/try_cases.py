@@ -1,5 +1,6 @@
-"""Case folders in one build, by `rt try --cases`. It gives each run its words, its standard input and copies of files that all runs share,
-and prints the output of each run and its status. The word {} names a copy of standard input, so that a run gets a file of its own."""
+"""Case folders in one build, by `rt try --cases`. It gives each run its words, its standard input
+and copies of files that all runs share, and prints the output of each run and its status. The word
+{} names a copy of standard input, so that a run gets a file of its own."""
 import os
 import re
 import tempfile
@@ -29,7 +30,8 @@ def write(path, content):
 
 
 def shared_files(cases):
-    """The files that all runs get, by their names: for each name the content that most cases have."""
+    """The files that all runs get, by their names: for each name the content that most cases
+    have."""
     found = {}
     for case in cases:
         for name in case_folder.files_in(f"{case}/files"):
@@ -82,7 +84,8 @@ class Batch:
         ]
 
     def takes_as_input(self, case, own):
-        """Whether the case has one file of its own, which standard input can be, and {} can name."""
+        """Whether the case has one file of its own, which standard input can be, and {} can
+        name."""
         name, printed = own[0].encode(), case_folder.read(case, "stdout") + case_folder.read(
             case, "stderr"
         )
@@ -98,7 +101,8 @@ class Batch:
         return case_folder.read(case, f"files/{own[0]}"), b"\n".join([*words, b""])
 
     def lay_out(self, room):
-        """Writes the cases and the shared files in the form of `rt try --cases`, and returns the words for it."""
+        """Writes the cases and the shared files in the form of `rt try --cases`, and returns the
+        words for it."""
         os.mkdir(f"{room}/cases")
         for case in self.cases:
             if not self.reason(case):
@@ -117,7 +121,8 @@ class Batch:
 
     @cached_property
     def found(self):
-        """For each case that was run, its line, standard error and standard output; and the end of the whole output."""
+        """For each case that was run, its line, standard error and standard output; and the end of
+        the whole output."""
         with tempfile.TemporaryDirectory(prefix="boxglue-cases-") as room:
             _, output, errors = rt_try(self.root, "boxglue", self.lay_out(room))
         outputs, runs, start = blocks(output), {}, 0

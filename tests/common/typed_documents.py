@@ -1,7 +1,9 @@
-"""Random documents, each as a script and as the calls that it stands for: what drivers in Python, Rust and C make of both has to be the same.
+"""Random documents, each as a script and as the calls that it stands for: what drivers in Python,
+Rust and C make of both has to be the same.
 
-bench/compare_documents.py makes the scripts: paragraphs with all kinds of items in boxes that are split into pages. The calls are read from the script here, without the
-library: a line each, with numbers in place of dimensions, as `glue 65536 1 2 0 0` for `glue 1pt plus 0.00002fill`."""
+bench/compare_documents.py makes the scripts: paragraphs with all kinds of items in boxes that are
+split into pages. The calls are read from the script here, without the library: a line each, with
+numbers in place of dimensions, as `glue 65536 1 2 0 0` for `glue 1pt plus 0.00002fill`."""
 import functools
 import itertools
 import math
@@ -9,7 +11,8 @@ import re
 import sys
 from fractions import Fraction
 
-# The types of the calls in Rust can say 2,000 of them, and so can a batch in Python: those in which the end of no list is refused.
+# The types of the calls in Rust can say 2,000 of them, and so can a batch in Python: those in which
+# the end of no list is refused.
 COUNT, SAID = 2150, 2000
 UNITS = {
     "pt": (1, 1),
@@ -111,7 +114,8 @@ def scripts(root):
 
 @functools.lru_cache(None)
 def documents(root):
-    """A text of all documents: of each the line `document SIZE`, its script of this size, and its calls."""
+    """A text of all documents: of each the line `document SIZE`, its script of this size, and its
+    calls."""
     made = []
     for script in itertools.islice(scripts(root), COUNT):
         calls = "".join(f"{call_of(it)}\n" for it in script.decode("ascii").splitlines())

@@ -1,8 +1,10 @@
-"""Calls that nothing reaches: each `pub fn` of a crate of the product, but laws, is reached from `main`, from the exports of the library for C or from the programs of
-docs/LIBRARY.md, or is on the list of calls that stay for callers in Rattle. A test is not a caller.
+"""Calls that nothing reaches: each `pub fn` of a crate of the product, but laws, is reached from
+`main`, from the exports of the library for C or from the programs of docs/LIBRARY.md, or is on the
+list of calls that stay for callers in Rattle. A test is not a caller.
 
-What is reached is read from the modules that the toolchain makes of these programs before anything is optimized: they have a function for each that is reached, under its
-crate, its module, its type and its name. Nothing is proved, and no program is run."""
+What is reached is read from the modules that the toolchain makes of these programs before anything
+is optimized: they have a function for each that is reached, under its crate, its module, its type
+and its name. Nothing is proved, and no program is run."""
 import functools
 import glob
 import os
@@ -25,8 +27,10 @@ WEIGHT = 3
 PROGRAMS = ("boxglue", "boxglue_c", "examples_scripts", "examples_jobs")
 # Crates that only test.
 BESIDE = ("tests_", "rows_", "examples_")
-# Calls that stay for callers in Rattle, though the program has them in another form or does not need them; `is_plain_body` tests the premise of `reuse`.
-# One that is reached after all is wrong here, too: a job that breaks by `breaks` beside `active_breaks` takes far more time, and no contract sees it.
+# Calls that stay for callers in Rattle, though the program has them in another form or does not
+# need them; `is_plain_body` tests the premise of `reuse`. One that is reached after all is wrong
+# here, too: a job that breaks by `breaks` beside `active_breaks` takes far more time, and no
+# contract sees it.
 FOR_CALLERS = """pack_core::offset break_core::breaks vert_core::append_box vert_core::lines vert_core::split ship_core::plan
     move_core::is_plain_body boxglue_program::run_rest""".split()
 EMPTY = ["{", "}"]
@@ -45,7 +49,8 @@ NAMED = ["made::file::free", "made::Kind::method", "made::Other::last"]
 
 @dataclass(frozen=True)
 class Function:
-    """An exported function that has a body: its crate, its file, its type if it is a method, and its name."""
+    """An exported function that has a body: its crate, its file, its type if it is a method, and
+    its name."""
 
     crate: str
     path: str
@@ -53,7 +58,8 @@ class Function:
     name: str
 
     def key(self):
-        """Its name as a module of a program has it. The methods of a type are named by the module of the type, which is left out."""
+        """Its name as a module of a program has it. The methods of a type are named by the module
+        of the type, which is left out."""
         module = re.sub(r"(::)?(lib|main)$", "", self.path.removesuffix(".rt").replace("/", "::"))
         return "::".join(filter(None, (self.crate, self.type or module, self.name)))
 
@@ -70,7 +76,8 @@ def is_public(tokens, at):
 
 
 def opening(tokens, at):
-    """The place of the brace that opens the body of the `impl`, `trait` or `mod` at this token, or None if it has none."""
+    """The place of the brace that opens the body of the `impl`, `trait` or `mod` at this token, or
+    None if it has none."""
     while tokens[at] != "{":
         if tokens[at] == ";":
             return None
@@ -79,7 +86,8 @@ def opening(tokens, at):
 
 
 def type_of(head):
-    """The type of an `impl` by the tokens between `impl` and its body; None for an `impl` of a trait."""
+    """The type of an `impl` by the tokens between `impl` and its body; None for an `impl` of a
+    trait."""
     if "for" in head:
         return None
     at = depth = 0
@@ -90,7 +98,8 @@ def type_of(head):
 
 
 def functions_of(crate, path, tokens, of_type=""):
-    """The exported functions of a file, or of the body of an `impl`. Those of traits, of their `impl`s and of modules within the file are left out."""
+    """The exported functions of a file, or of the body of an `impl`. Those of traits, of their
+    `impl`s and of modules within the file are left out."""
     at = 0
     while at < len(tokens):
         token, body = tokens[at], None
@@ -122,7 +131,8 @@ def exported(root):
 
 
 def keys_of(name):
-    """What a function of a module may be called here: with its modules, and by its crate and the last two names, of a type without its parameters and of itself."""
+    """What a function of a module may be called here: with its modules, and by its crate and the
+    last two names, of a type without its parameters and of itself."""
     name = name.partition("::<")[0]
     *before, kind, last = ["", *name.split("::")][-3:]
     return {name, "::".join((name.partition("::")[0], kind.partition("+")[0], last))}

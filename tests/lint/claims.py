@@ -1,5 +1,7 @@
-"""tests/claims.tsv: each sentence that boxglue promises, and the contracts, definitions, tests and edits that carry it, in the order of the crates: `tests/claims` sorts it.
-A case for each crate: its lines have their columns, and what they refer to is in the tree. Only texts are compared, and no program is run."""
+"""tests/claims.tsv: each sentence that boxglue promises, and the contracts, definitions, tests and
+edits that carry it, in the order of the crates: `tests/claims` sorts it. A case for each crate: its
+lines have their columns, and what they refer to is in the tree. Only texts are compared, and no
+program is run."""
 import functools
 import glob
 import os
@@ -17,9 +19,11 @@ MOST = 4
 # Crates of tests, and the name for lines without a crate.
 BESIDE = re.compile(r"(?:rows|tests|examples)_")
 OTHERS = "beside the crates"
-# The marks by which an outside text numbers its sentences. The table has to be readable without that text.
+# The marks by which an outside text numbers its sentences. The table has to be readable without
+# that text.
 FOREIGN = re.compile(r"\b(?:[DTWR]\d{1,2}|[Pp]apers?|[Tt]heorems?)\b")
-# Where the clauses of a function end: at its body, at the end of its declaration, or before the next function.
+# Where the clauses of a function end: at its body, at the end of its declaration, or before the
+# next function.
 BODY = re.compile(r"\n[ ]*\{|;[ ]*\n[ ]*(?:\n|\})|\bfn \w")
 CLAUSE = r"\b(?:requires|ensures|invariant) {0} \{{"
 
@@ -39,7 +43,8 @@ def sources(root, crate):
 
 
 def contracts(root, crate, name):
-    """What is between the name and the body of each function with this name; a type before it, as in Type::name, chooses the files that have it."""
+    """What is between the name and the body of each function with this name; a type before it, as
+    in Type::name, chooses the files that have it."""
     *kinds, last = name.split("::")
     for text in sources(root, crate):
         if all(re.search(rf"\b{kind}\b", text) for kind in kinds):
@@ -169,7 +174,8 @@ def crates(root):
 
 
 def crate_of(root, line):
-    """The crate of a line: that of its first reference into a crate of the program, else into one of tests; else none."""
+    """The crate of a line: that of its first reference into a crate of the program, else into one
+    of tests; else none."""
     found = [
         re.match(r"(?:\w+ )?(\w+)(?:::|/)", it)
         for it in (line.split("\t") + ["", ""])[2].split("; ")

@@ -1,5 +1,6 @@
-"""tests/definitions: what ten definitions reach is what is written by hand here, and what has to be believed has the definitions that a reader looks for first.
-Only texts are compared, and no program is run."""
+"""tests/definitions: what ten definitions reach is what is written by hand here, and what has to be
+believed has the definitions that a reader looks for first. Only texts are compared, and no program
+is run."""
 from functools import partial
 
 from lint.reached import tree_of
@@ -24,14 +25,16 @@ REACHED = {
     "is_paintable": "is_paintable is_size PaintOptionsView",
     "baseline_glue": "baseline_glue fits DimensionTooLarge Glue Order Dimen Params SplitParams IntParameter FirstLines",
 }
-# Among what has to be believed: the machine, the order of ties between lists of breaks, what a job counts, the files, and a host.
+# Among what has to be believed: the machine, the order of ties between lists of breaks, what a job
+# counts, the files, and a host.
 BELIEVED = "Machine IsDone WasSent key least_path is_not_after Load IsFile marks_of_page file_widths badness_of WasRun HasRun HandsOverRun HostView IsDviFault".split()
 # The clauses that say what a file is without the rules by which this writer draws and lays out one.
 HEADLINE = """
     job_core::run_commands.headline boxglue_program::run_script.answers
     boxglue_program::run_script.left boxglue_program::run_memory.answers
     boxglue_program::run_memory.left boxglue_lib::program.ran boxglue_c::boxglue_run.done""".split()
-# Where these rules are: the crates that draw, choose registers and write, and the layout and the spellings of dvi_ops.
+# Where these rules are: the crates that draw, choose registers and write, and the layout and the
+# spellings of dvi_ops.
 WRITER = {"ship_core", "move_core", "dvi_write"}, {"Layout", "Spelling", "Runs"}
 # What only other contracts reach, by a function whose contract does.
 ELSEWHERE = {

@@ -1,6 +1,8 @@
-"""The documents: each crate has a README.md of the one form; links and the files that these name are there; nothing is said twice, and all together are no longer than allowed.
-The tables and charts of docs/SPEED.md are those that bench/ makes of its data, README.md and the manual page round the same data, and docs/internal/EVIDENCE.md counts the
-edits. Hashes of commits stand in tables only. No program is run but these scripts."""
+"""The documents: each crate has a README.md of the one form; links and the files that these name
+are there; nothing is said twice, and all together are no longer than allowed. The tables and charts
+of docs/SPEED.md are those that bench/ makes of its data, README.md and the manual page round the
+same data, and docs/internal/EVIDENCE.md counts the edits. Hashes of commits stand in tables only.
+No program is run but these scripts."""
 import glob
 import os
 import re
@@ -30,12 +32,14 @@ LINK = re.compile(r"\]\(([^)#\s]+)(?:#[^)]*)?\)")
 LINES, PROVED_WORDS = range(15, 41), 120
 # The most edits in wrong-bodies/ of a crate: a reader keeps those that tell most.
 MOST_EDITS = 10
-# A commit by the first digits of its name, or by all. It has a digit and a letter, so no word and no number is taken for one.
+# A commit by the first digits of its name, or by all. It has a digit and a letter, so no word and
+# no number is taken for one.
 HASH = re.compile(r"\b(?=\d*[a-f])(?=[a-f]*\d)(?:[0-9a-f]{7,10}|[0-9a-f]{40})\b")
 # What README.md says beside TeX, in the sentence that links SPEED: a ratio, and of what.
 RATIO = re.compile(r"(\d+\.\d+) of (?:TeX's|its) (time|instructions|memory)\b")
 COLUMNS = {"time": "seconds", "instructions": "instructions", "memory": "memory"}
-# The sentences of the manual page with figures: each has the units, the seconds and the megabytes of a case. A page takes what more pages of a case take more.
+# The sentences of the manual page with figures: each has the units, the seconds and the megabytes
+# of a case. A page takes what more pages of a case take more.
 ON_MANUAL = (
     (
         r"\(2,000 paragraphs, ([\d,]+) words, 280 pages\) takes ([\d.]+) seconds and ([\d.]+) megabytes of memory\.",
@@ -69,7 +73,8 @@ def documents(root):
 
 
 def running_text(text):
-    """The paragraphs of a document, without code, tables, headings and pictures: code inside of a line ends a run of words."""
+    """The paragraphs of a document, without code, tables, headings and pictures: code inside of a
+    line ends a run of words."""
     text = re.sub(r"(?ms)^```.*?^```$", "\n\n", text)
     text = re.sub(r"(?m)^(?:    .*|\||\s*\|.*|#.*|!\[.*)$", "\n\n", text)
     text = re.sub(r"(?m)^\|.*$", "\n\n", text)
@@ -102,7 +107,8 @@ def said_twice(root):
 
 
 def links(root):
-    """Links to files that are not there, and names of documents that are neither in docs/ nor beside the text. A link gives the path of any other document."""
+    """Links to files that are not there, and names of documents that are neither in docs/ nor
+    beside the text. A link gives the path of any other document."""
     wrong = []
     for path in documents(root):
         text, folder = re.sub(r"(?ms)^```.*?^```$", "", read(f"{root}/{path}")), os.path.dirname(
@@ -257,7 +263,8 @@ def is_rounded(said, value):
 
 
 def speed_of_readme(root):
-    """What README.md says beside TeX, in the sentence that links docs/SPEED.md: two ratios or more of `paragraphs` at tolerance 200, to one decimal place, and its words."""
+    """What README.md says beside TeX, in the sentence that links docs/SPEED.md: two ratios or more
+    of `paragraphs` at tolerance 200, to one decimal place, and its words."""
     ours, tex = (measured(root)["paragraphs_200", it] for it in ("boxglue", "tex"))
     lines = [
         it
@@ -339,7 +346,8 @@ def figures_with_source(root):
 
 
 def edits(root):
-    """Whether docs/internal/EVIDENCE.md counts the edits as they are, and no crate has too many of them in wrong-bodies/."""
+    """Whether docs/internal/EVIDENCE.md counts the edits as they are, and no crate has too many of
+    them in wrong-bodies/."""
     many = [
         it
         for it in sorted(glob.glob(f"{root}/crates/*"))

@@ -1,7 +1,8 @@
 """The English of the documents: no sentence has one of the bad habits that a test can find.
 
 The test cannot find all habits, so read a text even if it finds none.
-Each rule has a sentence that breaks it, and the same in good English, which breaks no rule: the case "rules" tries both."""
+Each rule has a sentence that breaks it, and the same in good English, which breaks no rule: the
+case "rules" tries both."""
 import functools
 import os
 import re
@@ -15,7 +16,8 @@ from lint.sentences import sentences
 
 TITLE = "the English of the documents: no sentence has one of the habits that a test can find"
 TRIES = False
-# "alone" says with these verbs how something is done, as it does with participles and with forms in -ing.
+# "alone" says with these verbs how something is done, as it does with participles and with forms in
+# -ing.
 VERBS = {
     *"act acts am are be come comes do does go goes is live lives run runs ran sit sits stand stands stood swim swims walk walks was were work works".split()
 }
@@ -33,7 +35,8 @@ def says_so(text):
 
 
 def has_alone(text):
-    """Finds an "alone" behind a noun. Behind a verb it says how, and a sentence may tell to leave something alone."""
+    """Finds an "alone" behind a noun. Behind a verb it says how, and a sentence may tell to leave
+    something alone."""
     for found in re.finditer(r" alone\b", text):
         words = re.findall(r"[\w◇]+", text[: found.start()].lower())
         if (
@@ -48,8 +51,8 @@ def has_alone(text):
 
 @dataclass(frozen=True)
 class Rule:
-    """A rule: its message, a call that finds where a text breaks it, a sentence that breaks it, the same in good English, and whether it is about the
-    beginning of a sentence."""
+    """A rule: its message, a call that finds where a text breaks it, a sentence that breaks it, the
+    same in good English, and whether it is about the beginning of a sentence."""
 
     message: str
     find: Callable
@@ -58,7 +61,8 @@ class Rule:
     is_on_beginning: bool = False
 
     def broken(self, sentence):
-        """The words by which a sentence breaks the rule, with some around them. A cell that is not a sentence has no beginning."""
+        """The words by which a sentence breaks the rule, with some around them. A cell that is not
+        a sentence has no beginning."""
         found = (
             self.find(sentence.text) if sentence.is_whole() or not self.is_on_beginning else None
         )
@@ -74,8 +78,9 @@ CALLS = {"=says_so": says_so, "=has_alone": has_alone}
 
 @functools.lru_cache(None)
 def data(root, name):
-    """A text of the folder of cases: sentences with a habit and in good English, some of which look like a habit; a text that has habits only in code, headings, links, pictures and
-    quoted words, and one with a habit in each of its odd lines."""
+    """A text of the folder of cases: sentences with a habit and in good English, some of which look
+    like a habit; a text that has habits only in code, headings, links, pictures and quoted words,
+    and one with a habit in each of its odd lines."""
     return read(f"{root}/tests/cases/english/{name}")
 
 

@@ -1,7 +1,10 @@
-"""include/boxglue.h: the functions, structs, statuses and the version that it declares are those of the exports, and each function that has a pointer with a size has
-a call that takes a null pointer where the size is 0, and a script at any address. What bindings/rust and bindings/python declare is what the header does.
-tests/interface.tsv lists by version what a program can see, so a call that is added to a released version raises its number.
-Only texts are compared: names, numbers, the order and the width of parameters and fields. No program is built, and Python loads no library."""
+"""include/boxglue.h: the functions, structs, statuses and the version that it declares are those of
+the exports, and each function that has a pointer with a size has a call that takes a null pointer
+where the size is 0, and a script at any address. What bindings/rust and bindings/python declare is
+what the header does. tests/interface.tsv lists by version what a program can see, so a call that is
+added to a released version raises its number.
+Only texts are compared: names, numbers, the order and the width of parameters and fields. No
+program is built, and Python loads no library."""
 import glob
 import hashlib
 import json
@@ -29,8 +32,10 @@ STATUSES_OF_PYTHON = "bindings/python/boxglue/_status.py"
 REPLIES_OF_PYTHON = "bindings/python/boxglue/_replies.py"
 RUST = "bindings/rust/boxglue-sys/src/lib.rs"
 CALLS_OF_C = "#ifndef BOXGLUE_NO_INLINE"
-# The calls, structs and numbers of the header, each with the version that added it. A version that CHANGELOG.md dates is released, and has a row with the
-# digest of its rows. A row that is gone goes with a first number. One struct got fields before that was tested, as the header and CHANGELOG.md say.
+# The calls, structs and numbers of the header, each with the version that added it. A version that
+# CHANGELOG.md dates is released, and has a row with the digest of its rows. A row that is gone goes
+# with a first number. One struct got fields before that was tested, as the header and CHANGELOG.md
+# say.
 INTERFACE, DIGEST, GONE = "tests/interface.tsv", "sha256 ", "gone "
 CHANGED = (
     "1.2.0",
@@ -67,7 +72,8 @@ def c_type(name):
 
 
 def slice_of(name, item, mutable):
-    """The pointer and the length that C passes for a slice. A length is named after one item: `fonts` and `font_count`."""
+    """The pointer and the length that C passes for a slice. A length is named after one item:
+    `fonts` and `font_count`."""
     kind = c_type(item)
     one = (
         re.sub("ies$|s$", lambda end: "y" if end[0] == "ies" else "", name)
@@ -229,7 +235,8 @@ def reply_kinds(root):
 
 
 def numbers_of_replies(root):
-    """What is wrong with the numbers of refusals, of their causes, and of kinds of boxes and items."""
+    """What is wrong with the numbers of refusals, of their causes, and of kinds of boxes and
+    items."""
     rows = f"{JOBS}/rows.rt"
     faults = f"{CALLS}/faults.rt"
     wrong = (
@@ -272,7 +279,8 @@ def status_texts(root):
 
 
 def refusal_names(root):
-    """What is wrong with the names of refusals and of their causes: C and Python have the same ones."""
+    """What is wrong with the names of refusals and of their causes: C and Python have the same
+    ones."""
     lists = re.findall(r"const names\[\] = \{([^}]*)\}", declared(root))
     found = [re.findall(r'"(\w+)"', it) for it in lists]
     text = read(f"{root}/{REPLIES_OF_PYTHON}")
@@ -284,7 +292,8 @@ def refusal_names(root):
 
 
 def refusal_names(root):
-    """What is wrong with the names of refusals and of their causes: C and Python have the same ones."""
+    """What is wrong with the names of refusals and of their causes: C and Python have the same
+    ones."""
     lists = re.findall(r"const names\[\] = \{([^}]*)\}", declared(root))
     found = [re.findall(r'"(\w+)"', it) for it in lists]
     python_text = read(f"{root}/{REPLIES_OF_PYTHON}")
@@ -299,7 +308,8 @@ def refusal_names(root):
 
 
 def c_of_rust(text):
-    """What C writes for parameters or fields of Rust. A name that is a word of Rust has an underscore after it there."""
+    """What C writes for parameters or fields of Rust. A name that is a word of Rust has an
+    underscore after it there."""
     made = []
     for name, kind in re.findall(r"(\w+): ([^,]+)", re.sub(r"///.*|\bpub ", "", text)):
         pointer, length = re.fullmatch(r"\*(const|mut) (\S+)\s*", kind), re.fullmatch(
@@ -342,7 +352,8 @@ def rust(root):
     return None if found == wanted else f"Rust has {found}, and the header {wanted}"
 
 
-# Prints the structs, the calls and the numbers of the binding for Python as C declares them. It loads no library.
+# Prints the structs, the calls and the numbers of the binding for Python as C declares them. It
+# loads no library.
 PRINT_PYTHON = """
 import ctypes, json
 from boxglue import ItemKind, MarkKind, ReplyKind, Status, _library, _replies
@@ -368,7 +379,8 @@ print(json.dumps({**structs, **calls, **{f"enum boxglue_{name}": [*found.items()
 
 
 def python_words(root):
-    """What the binding for Python has: by the names of structs, of calls and of enums their fields, their parameters and their numbers."""
+    """What the binding for Python has: by the names of structs, of calls and of enums their fields,
+    their parameters and their numbers."""
     env = {"PYTHONPATH": f"{root}/bindings/python", "PYTHONDONTWRITEBYTECODE": "1"}
     return json.loads(
         finished([sys.executable, "-c", PRINT_PYTHON], env=env, text=True, check=True).stdout
@@ -376,7 +388,8 @@ def python_words(root):
 
 
 def python_type(declaration):
-    """The type of a parameter or a field as Python knows it, and its name: pointers to constant structs are pointers, and size_t has the 64 bits of uint64_t."""
+    """The type of a parameter or a field as Python knows it, and its name: pointers to constant
+    structs are pointers, and size_t has the 64 bits of uint64_t."""
     kind, name, length = re.fullmatch(r"(.*?) ?(\w+)((?:\[\d+\])?)", declaration.strip()).groups()
     return kind.replace("uint64_t", "size_t").replace("const struct", "struct") + length, name
 
@@ -435,7 +448,8 @@ def new_version(root):
 
 
 def other_places(root):
-    """Lines of the program, the library, their documents and packages that have the version, and that tools/version.py does not write. A line may tell of its history."""
+    """Lines of the program, the library, their documents and packages that have the version, and
+    that tools/version.py does not write. A line may tell of its history."""
     number, wrong = tools_version.dotted(root), []
     patterns = "install include/* completions/* docs/boxglue.1 bindings/**/* crates/*/src/**/*.rt tools/**/*".split()
     for path in sorted(
@@ -553,7 +567,8 @@ def interface(root):
 
 
 def new_call(root):
-    """Whether a call is found that is added without a new number, whatever row it has; and one that is gone."""
+    """Whether a call is found that is added without a new number, whatever row it has; and one that
+    is gone."""
     text, rows, number = declared(root), listed(root), tools_version.dotted(root)
     call, released = "uint32_t boxglue_new(void);", re.findall(
         RELEASED, read(f"{root}/CHANGELOG.md")

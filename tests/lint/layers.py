@@ -1,5 +1,6 @@
-"""The eight layers of crates/README.md: its tables have the crates of crates.txt, and a line there names crates of its own layer or of an
-earlier one, each because a file of the crate speaks of it. Only texts are compared, and no program is run."""
+"""The eight layers of crates/README.md: its tables have the crates of crates.txt, and a line there
+names crates of its own layer or of an earlier one, each because a file of the crate speaks of it.
+Only texts are compared, and no program is run."""
 import glob
 import re
 from functools import partial
@@ -18,7 +19,8 @@ ROW = re.compile(r"(?m)^\|(?: (\w*) ?\|)? ((?:`\w+`(?:, )?)+) \| .* \|$")
 
 
 def layers(root):
-    """The crates of the tables, each with the number of its layer; those that only test have None."""
+    """The crates of the tables, each with the number of its layer; those that only test have
+    None."""
     product, _, tests = read(f"{root}/crates/README.md").partition("Beside the layers")
     found, layer = {}, 0
     for name, crates in ROW.findall(product):
@@ -70,7 +72,8 @@ def unused(root):
 
 
 def cases(_programs, root):
-    """A case for the tables, one for the order of layers and lines, and one for what is not used."""
+    """A case for the tables, one for the order of layers and lines, and one for what is not
+    used."""
     yield "tables", partial(tables, root)
     yield "later layers", partial(later, root)
     yield "what is used", partial(unused, root)

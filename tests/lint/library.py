@@ -1,5 +1,5 @@
-"""The examples of docs/LIBRARY.md: each block of Rust is the text of an example of a crate `examples_..`, which `rt ci` proves and runs.
-Only texts are compared, and no program is run."""
+"""The examples of docs/LIBRARY.md: each block of Rust is the text of an example of a crate
+`examples_..`, which `rt ci` proves and runs. Only texts are compared, and no program is run."""
 import glob
 import re
 import textwrap

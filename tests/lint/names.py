@@ -1,5 +1,6 @@
-"""The names that documents, as docs/PROVED.md and the README.md of each crate, write as code: functions, clauses, laws, definitions, crates, edits. Each has to be in
-the sources. Only texts are compared, and no program is run."""
+"""The names that documents, as docs/PROVED.md and the README.md of each crate, write as code:
+functions, clauses, laws, definitions, crates, edits. Each has to be in the sources. Only texts are
+compared, and no program is run."""
 import functools
 import glob
 import os
@@ -32,7 +33,8 @@ FUNCTION = re.compile(r"\s*(?:pub(?:\(crate\))? )?(?:(?:const|unsafe|extern \"C\
 MOST_COLUMNS = 150
 # A definition, and the file or folder where a document places it.
 PLACED = re.compile(r"`(\w+)` \(`(crates/\w+/specs[\w/.]*)`\)")
-# A participle tells not what a thing is. Those that are also an infinitive, as read, set and cut, are left out, since a function may be called so.
+# A participle tells not what a thing is. Those that are also an infinitive, as read, set and cut,
+# are left out, since a function may be called so.
 IRREGULAR = "broken built chosen drawn found given held hidden kept left lost made met said seen sent shown sought spoken struck taken thrown told woven written".split()
 PARTICIPLE = re.compile(
     rf"[A-Z]?[a-z]*[^e]ed|[Uu]n(?:read|set|split)|{'|'.join(f'[{it[0].upper()}{it[0]}]{it[1:]}' for it in IRREGULAR)}"
@@ -50,7 +52,8 @@ GONE = dict(
 FORMS = {it: word for word in GONE for it in (word, f"{word}s", f"{word}ing", f"{word}ed")}
 FORMS |= {"stood": "stand", "stopped": "stop", "stopping": "stop"}
 PARTS = re.compile(r"[A-Z]+(?![a-z])|[A-Z]?[a-z]+")
-# Where a stop is one: trying lines from a place stops; a session or a machine stops before its end; `stop_flag` is TFtoPL's.
+# Where a stop is one: trying lines from a place stops; a session or a machine stops before its end;
+# `stop_flag` is TFtoPL's.
 STOPS = ("break_lines", "break_core", "vert_core", "boxglue_program", "job_machine", "tfm_core")
 # What is no code: comments and texts.
 NO_CODE = re.compile(r"(?m)\"(?:\\.|[^\"\\])*\"|//.*$|(?:^|(?<=\s))--(?:\s.*)?$")
@@ -78,7 +81,8 @@ def known_words(root):
 
 
 def named(text):
-    """The names in code spans of a document that have an underscore, a path or a capital letter inside."""
+    """The names in code spans of a document that have an underscore, a path or a capital letter
+    inside."""
     for code in re.findall(
         r"`([^`\n]+)`", re.sub(r"^(```.*?^```|    .*?)$", "", text, flags=re.M | re.S)
     ):
@@ -106,7 +110,8 @@ def outcome(root, pattern):
 
 
 def misplaced(root):
-    """Definitions that are not in the file or folder of definitions where a document places them."""
+    """Definitions that are not in the file or folder of definitions where a document places
+    them."""
     wrong = []
     for path in sorted({it for pattern in DOCUMENTS for it in documents(root, pattern)}):
         for name, place in PLACED.findall(read(f"{root}/{path}")):
@@ -127,7 +132,8 @@ def misplaced(root):
 
 
 def test_attributes(root):
-    """Sources whose comments write the test attribute: `rt ci` then looks for tests in a crate that may have none, and fails."""
+    """Sources whose comments write the test attribute: `rt ci` then looks for tests in a crate that
+    may have none, and fails."""
     wrong = [
         os.path.relpath(path, root)
         for path in glob.glob(f"{root}/crates/*/src/**/*.rt", recursive=True)
@@ -137,7 +143,8 @@ def test_attributes(root):
 
 
 def job_before_dvi(root):
-    """Files of the machine and of the job below `job_core` that name a crate of DVI: pages stand before there is DVI."""
+    """Files of the machine and of the job below `job_core` that name a crate of DVI: pages stand
+    before there is DVI."""
     wrong = [
         os.path.relpath(path, root)
         for crate in BEFORE_DVI
@@ -169,7 +176,8 @@ def premises_of_exports(root):
 
 
 def long_lines(root):
-    """Lines of code and of definitions above 150 columns. An attribute may be longer, since `rt fmt` writes it on one line, and a line with a text of more than 100 columns."""
+    """Lines of code and of definitions above 150 columns. An attribute may be longer, since `rt
+    fmt` writes it on one line, and a line with a text of more than 100 columns."""
     wrong = []
     for path in sorted(
         glob.glob(f"{root}/crates/*/src/**/*.rt", recursive=True)
@@ -207,8 +215,8 @@ def gone(root):
 
 
 def participles(root):
-    """Definitions, functions and types that a single word names, and this is a participle. Fields of records, cases of data and labels of clauses
-    are none of them."""
+    """Definitions, functions and types that a single word names, and this is a participle. Fields
+    of records, cases of data and labels of clauses are none of them."""
     found = []
     for path in sorted(
         glob.glob(f"{root}/crates/*/specs/**/*.antt", recursive=True)
@@ -238,8 +246,9 @@ def contracts(root, crate):
 
 
 def lacking_clauses(known, line):
-    """Clauses that a line gives to functions of which none has them, and names with no function. A line has groups with `;` between them, each of functions, then a space and
-    clauses with `/` between them."""
+    """Clauses that a line gives to functions of which none has them, and names with no function. A
+    line has groups with `;` between them, each of functions, then a space and clauses with `/`
+    between them."""
     functions, after = [], ""
     for token, after_token in re.findall(r"`([^`]+)`([^`]*)", line):
         name = token.split("::")[-1]
@@ -254,7 +263,8 @@ def lacking_clauses(known, line):
 
 
 def clauses(root):
-    """What PROVED.md gives to functions that lack it, and the README.md of a crate to functions of this crate."""
+    """What PROVED.md gives to functions that lack it, and the README.md of a crate to functions of
+    this crate."""
     wrong = []
     for path in ("docs/PROVED.md", *documents(root, "crates/*/README.md")):
         known = contracts(root, path.split("/")[1] if path.startswith("crates/") else "*")

@@ -1,4 +1,5 @@
-"""The tools outside of the repository that a case may need: docs/internal/GATE.md lists them, and in the gate a case is skipped only where one of them is missing."""
+"""The tools outside of the repository that a case may need: docs/internal/GATE.md lists them, and
+in the gate a case is skipped only where one of them is missing."""
 import glob
 import re
 from functools import partial

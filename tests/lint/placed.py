@@ -1,6 +1,8 @@
-"""Each definition stands where the contracts say: in specs/*.antt what a public contract reaches, which a reader has to believe, and in specs/Private/*.antt what
-only proofs and private functions need. A contract is public where another crate or a user can call its function (public_items.py). The view and the invariant of a type
-are not followed: contracts alone say what its value is, so that a caller need not know how it is made.
+"""Each definition stands where the contracts say: in specs/*.antt what a public contract reaches,
+which a reader has to believe, and in specs/Private/*.antt what only proofs and private functions
+need. A contract is public where another crate or a user can call its function (public_items.py).
+The view and the invariant of a type are not followed: contracts alone say what its value is, so
+that a caller need not know how it is made.
 Only texts are compared, and no program is run."""
 import glob
 import os
@@ -12,9 +14,11 @@ from lint.reached import Name, imports, read, tree_of
 
 TITLE = "what a public contract reaches stands in specs/*.antt of its crate, and what none reaches in specs/Private"
 TRIES = False
-# A module of definitions that is imported under its own name, so that what is used of it stands after a point.
+# A module of definitions that is imported under its own name, so that what is used of it stands
+# after a point.
 WHOLE_MODULE = re.compile(r"(?m)^\s*(?:pub |ghost )*use Rattle\.(\w+\.specs(?:\.\w+)+)\s*(?:;|$)")
-# By hand, from the root files: what others can call, by way of a public module, of a re-export, of a type, of a trait; and what they cannot.
+# By hand, from the root files: what others can call, by way of a public module, of a re-export, of
+# a type, of a trait; and what they cannot.
 CALLED = {
     "dvi_write": "DviWriter::page Progress::next_page more_fonts_keep_what_was_written",
     "dvi_device": "Device::write Device::write_gives Memory::bytes_written Rest::past Snapshot::of write_all",
@@ -103,7 +107,8 @@ def callable_by_hand(root):
 
 
 def unfollowed(root):
-    """Names by which a definition would be used unseen: an import of a whole module under its own name, and an operator."""
+    """Names by which a definition would be used unseen: an import of a whole module under its own
+    name, and an operator."""
     wrong, crates = [], tree_of(root).crates()
     for path in sorted(
         glob.glob(f"{root}/crates/*/src/**/*.rt", recursive=True)
@@ -116,7 +121,8 @@ def unfollowed(root):
 
 
 def cases(_programs, root):
-    """A case for what others can call, one for names that are not followed, and one for each crate with definitions."""
+    """A case for what others can call, one for names that are not followed, and one for each crate
+    with definitions."""
     yield "what others can call", partial(callable_by_hand, root)
     yield "names that are not followed", partial(unfollowed, root)
     for crate in tree_of(root).crates():

@@ -1,7 +1,10 @@
-"""What another crate or a user can call, of the sources of one crate: the functions that its root file exports, the methods of the types and traits that it exports,
-those of traits for such types, and the types that stand in their signatures. Each gives the texts that its callers see: its clauses, and the ghost members of traits.
+"""What another crate or a user can call, of the sources of one crate: the functions that its root
+file exports, the methods of the types and traits that it exports, those of traits for such types,
+and the types that stand in their signatures. Each gives the texts that its callers see: its
+clauses, and the ghost members of traits.
 
-A source is laid out by `rt fmt`, and is read by the brackets of its items; bodies of functions are passed over."""
+A source is laid out by `rt fmt`, and is read by the brackets of its items; bodies of functions are
+passed over."""
 import os
 import re
 from dataclasses import dataclass, field
@@ -17,8 +20,9 @@ OPENING = "{(["
 
 @dataclass
 class Item:
-    """An item of a source: its kind, its name, whether `pub` stands before it, its text without body, its clauses, the items in it, and the places of its clauses with
-    their labels; those of another item are its own."""
+    """An item of a source: its kind, its name, whether `pub` stands before it, its text without
+    body, its clauses, the items in it, and the places of its clauses with their labels; those of
+    another item are its own."""
 
     kind: str
     name: str
@@ -66,7 +70,8 @@ def function(text, at, name):
 
 
 def end_of_item(text, at):
-    """The place where the braces of an item begin, or its end is; whichever comes first outside of other brackets."""
+    """The place where the braces of an item begin, or its end is; whichever comes first outside of
+    other brackets."""
     while text[at] not in "{;":
         at = end_of_group(text, at) if text[at] in OPENING else at + 1
     return at
@@ -138,7 +143,8 @@ def leaves(item):
 
 
 def shown_types(item):
-    """The text of the types of the public fields of a type, or of the cases of an enum without their names."""
+    """The text of the types of the public fields of a type, or of the cases of an enum without
+    their names."""
     if item.kind == "struct":
         return " ".join(
             re.findall(r"(?m)^\s+pub \w+:([^\n]*)", item.text)
@@ -211,7 +217,8 @@ class Sources:
         }
 
     def add_types(self):
-        """Enters the types that stand in what is exported: their values can be had, and their methods called."""
+        """Enters the types that stand in what is exported: their values can be had, and their
+        methods called."""
         known, before = self.types(), None
         while before != len(self.exported):
             before = len(self.exported)
@@ -235,7 +242,8 @@ class Sources:
         return name not in known or (known[name], name) in self.exported
 
     def blocks(self):
-        """The `impl` blocks of the sources, and the traits that are exported, each with its module."""
+        """The `impl` blocks of the sources, and the traits that are exported, each with its
+        module."""
         for module, its in self.files.items():
             for item in its:
                 if item.kind == "impl" or (
@@ -244,7 +252,8 @@ class Sources:
                     yield module, item
 
     def callable(self):
-        """The functions that can be called, and the ghost members of traits that callers see, each with its module and the block that it is in."""
+        """The functions that can be called, and the ghost members of traits that callers see, each
+        with its module and the block that it is in."""
         for module, its in self.files.items():
             for item in its:
                 if item.kind == "fn" and (module, item.name) in self.exported:
@@ -270,7 +279,8 @@ class Sources:
             yield f"{kind}{item.name}"
 
     def contracts(self):
-        """The texts of contracts that callers see, each with the texts of the imports that it is read by."""
+        """The texts of contracts that callers see, each with the texts of the imports that it is
+        read by."""
         for (module, block), item in self.callable():
             uses = [*self.files[module], *(block.inner if block else [])]
             yield "\n".join(it.text for it in uses if it.kind == "use"), "\n".join(

@@ -1,7 +1,10 @@
-"""The definitions that a statement is made of: those of crates/*/specs, and the types of the sources that they speak of, each with all that it names.
+"""The definitions that a statement is made of: those of crates/*/specs, and the types of the
+sources that they speak of, each with all that it names.
 
-A definition is found by its crate, its module and its name. What its text names is found by the imports of its file; what stands after a point is a field,
-and its record is found by its own name. Of a type of a source with a view (`impl Model`) the view is followed, since contracts see nothing else of it."""
+A definition is found by its crate, its module and its name. What its text names is found by the
+imports of its file; what stands after a point is a field, and its record is found by its own name.
+Of a type of a source with a view (`impl Model`) the view is followed, since contracts see nothing
+else of it."""
 import functools
 import glob
 import os
@@ -26,7 +29,8 @@ MODEL = r"(?m)^impl(?:<[^{{]*?>)? Model for {0}\b"
 
 @dataclass(frozen=True)
 class Name:
-    """Where a definition is: its crate, its module or, for a type of a source, the path of its file, and its name."""
+    """Where a definition is: its crate, its module or, for a type of a source, the path of its
+    file, and its name."""
 
     crate: str
     module: str
@@ -39,7 +43,8 @@ class Name:
 
 @dataclass
 class Definition:
-    """A definition: all names that share its comment, the comment, where it stands, the fields with their comments, and what its text names."""
+    """A definition: all names that share its comment, the comment, where it stands, the fields with
+    their comments, and what its text names."""
 
     names: list
     comment: str
@@ -51,7 +56,8 @@ class Definition:
 
 
 def imports(text):
-    """The paths of the names that a file imports, and those of the modules that it calls by another name."""
+    """The paths of the names that a file imports, and those of the modules that it calls by another
+    name."""
     names, modules = {}, {}
     for path, group, module, short in IMPORT.findall(text):
         if short:
@@ -71,7 +77,8 @@ def comment_of(lines):
 
 
 def own_fields(lines):
-    """The fields of a record or the cases of data, each with its comment: pairs of a declaration and a comment, which holds for the fields that follow it."""
+    """The fields of a record or the cases of data, each with its comment: pairs of a declaration
+    and a comment, which holds for the fields that follow it."""
     found, comment, fresh = [], [], False
     for line in lines:
         if line.lstrip().startswith("--"):
@@ -84,7 +91,8 @@ def own_fields(lines):
 
 
 def blocks(text):
-    """The comment of a file, and its declarations: the place of the first line, the comment, and the lines of each."""
+    """The comment of a file, and its declarations: the place of the first line, the comment, and
+    the lines of each."""
     lines = text.split("\n")
     head_end = next((at for at, it in enumerate(lines) if not is_comment(it)), len(lines))
     found, comment, at = [], [], head_end
@@ -153,7 +161,8 @@ class Tree:
 
     @functools.lru_cache(None)
     def modules(self, crate):
-        """The modules of definitions of a crate, those of specs/Private too. The root files declare modules alone."""
+        """The modules of definitions of a crate, those of specs/Private too. The root files declare
+        modules alone."""
         folder = f"{self.root}/crates/{crate}/specs"
         found = (
             os.path.relpath(it, folder)[: -len(".antt")].replace("/", ".")
@@ -180,7 +189,8 @@ class Tree:
         )
 
     def resolve(self, path):
-        """The name of a definition by the path of an import; None if it is none of this repository's specs."""
+        """The name of a definition by the path of an import; None if it is none of this
+        repository's specs."""
         parts = path.split(".")
         if len(parts) < 4 or parts[2] != "specs":
             return None
@@ -217,7 +227,8 @@ class Tree:
                 yield found
 
     def type_definition(self, it):
-        """A type or a constant of a source: its comment and its view, or the types of its fields where it has none."""
+        """A type or a constant of a source: its comment and its view, or the types of its fields
+        where it has none."""
         if it.module:
             path = f"{self.root}/crates/{it.crate}/src/{it.module}.rt"
             match = os.path.exists(path) and re.search(
@@ -324,8 +335,10 @@ class Tree:
         return found
 
     def by_name(self, given):
-        """The definitions and types with a name, which a crate may stand before, as `job_core::Represents`; else what the clauses of the functions of this name speak of,
-        before which a type may stand, as `Dvi::open`, and behind which one clause, as `run_commands.headline`.
+        """The definitions and types with a name, which a crate may stand before, as
+        `job_core::Represents`; else what the clauses of the functions of this name speak of, before
+        which a type may stand, as `Dvi::open`, and behind which one clause, as
+        `run_commands.headline`.
         """
         *before, name = given.split("::")
         name, _, clause = name.partition(".")
@@ -345,7 +358,8 @@ class Tree:
         ]
 
     def by_function(self, crate, name, kind=None, clause=""):
-        """What the clauses of a function speak of, or one of them: of those in files that have an `impl` of a type or its trait, if one is named."""
+        """What the clauses of a function speak of, or one of them: of those in files that have an
+        `impl` of a type or its trait, if one is named."""
         for path in self.files(crate):
             text = read(path)
             if kind and not re.search(

@@ -1,7 +1,8 @@
 """The sentences of a Markdown text, with their lines, for rules about words.
 
-It leaves out blocks of code, headings and pictures. Code inside of a sentence and quoted words become a sign for a noun, and a link becomes its text.
-List items and cells of tables are sentences too."""
+It leaves out blocks of code, headings and pictures. Code inside of a sentence and quoted words
+become a sign for a noun, and a link becomes its text. List items and cells of tables are sentences
+too."""
 import re
 from bisect import bisect_right
 from dataclasses import dataclass
@@ -15,7 +16,8 @@ FENCE, CODE, LEFT_OUT = (
     re.compile(r"\s*#+ |\s*<!--|\s*\[[^]]+\]: |\s*\|?[-:| ]+$"),
 )
 ITEM, CELLS = re.compile(r"\s*(?:> ?)*(?:[-*+]|\d+[.)])\s+"), re.compile(r"\s*\|")
-# A sentence ends before a capital letter, a number or a noun. The text after a colon is a sentence only if it begins with a capital letter.
+# A sentence ends before a capital letter, a number or a noun. The text after a colon is a sentence
+# only if it begins with a capital letter.
 END = re.compile(
     r"(?<!e\.g\.)(?<!i\.e\.)(?<!cf\.)(?<!vs\.)(?:(?<=[.!?])|(?<=[.!?]\)))\s+(?=[(\[]*[A-Z\d◇])|(?<=:)\s+(?=[A-Z])"
 )
@@ -23,14 +25,16 @@ END = re.compile(
 
 @dataclass(frozen=True)
 class Sentence:
-    """A sentence, the number of its line, and its place: a "paragraph", an "item" of a list, or a "cell"."""
+    """A sentence, the number of its line, and its place: a "paragraph", an "item" of a list, or a
+    "cell"."""
 
     line: int
     text: str
     kind: str
 
     def is_whole(self):
-        """Whether it is a sentence or an item. A cell is one if it ends as one, or begins with a capital letter and has four words."""
+        """Whether it is a sentence or an item. A cell is one if it ends as one, or begins with a
+        capital letter and has four words."""
         return (
             self.kind != "cell"
             or self.text[-1] in ".!"
@@ -49,7 +53,8 @@ def plain(line):
 
 
 def blocks(text):
-    """The paragraphs, items and cells of a text, each with its kind, and its lines with their numbers."""
+    """The paragraphs, items and cells of a text, each with its kind, and its lines with their
+    numbers."""
     found, is_open, is_fenced = [], False, False
     for number, line in enumerate(text.splitlines(), 1):
         is_fence, is_code = bool(FENCE.match(line)), bool(CODE.match(line)) and not is_open

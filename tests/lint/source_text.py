@@ -9,7 +9,8 @@ BRACKET = re.compile(r"[][{}()]")
 
 
 def blanked(text):
-    """The text with blanks in place of comments, of strings and of characters, so that each bracket is one of the code."""
+    """The text with blanks in place of comments, of strings and of characters, so that each bracket
+    is one of the code."""
     return PASSED.sub(
         lambda it: re.sub(r"[^\n]", " ", it[0])
         if it[0].startswith(("//", "/*", '"', "'", 'b"', "b'"))

@@ -1,7 +1,8 @@
 """The part of a crate's sources that the crates above it use.
 
-A check of a crate above loads types, constants and contracts, and no body. So a change of a body, of a comment, of a tactic or of a
-function that is private to its file leaves this text unchanged."""
+A check of a crate above loads types, constants and contracts, and no body. So a change of a body,
+of a comment, of a tactic or of a function that is private to its file leaves this text
+unchanged."""
 import re
 
 TOKEN = re.compile(
@@ -29,7 +30,8 @@ def end_of(tokens, at):
 
 
 def body_of(tokens, at):
-    """The place where the body of the function begins whose name is at this token; the place of its `;` if it has no body."""
+    """The place where the body of the function begins whose name is at this token; the place of its
+    `;` if it has no body."""
     while tokens[at] != ";":
         clause = {*[it for it in tokens[at - 3 : at] if it != "*"][-2:]} & {"requires", "ensures"}
         if tokens[at] == "{" and not clause:
@@ -51,7 +53,8 @@ def without_tactics(tokens):
 
 
 def without_bodies(tokens):
-    """The tokens without the bodies of functions, and without the functions that are private to the file. The body of a `const fn` stays."""
+    """The tokens without the bodies of functions, and without the functions that are private to the
+    file. The body of a `const fn` stays."""
     found, at, depth = [], 0, 0
     while at < len(tokens):
         depth += (tokens[at] == "{") - (tokens[at] == "}")
@@ -91,7 +94,8 @@ def imports_of(tokens):
 
 
 def statements(text):
-    """The tokens that the crates above a source file use. Its imports are only those of names that are used elsewhere in it."""
+    """The tokens that the crates above a source file use. Its imports are only those of names that
+    are used elsewhere in it."""
     rest, imports = imports_of(without_bodies(without_tactics(tokens_of(text))))
     seen = {*rest}
     used = lambda name: {*re.findall(r"[^\W\d][\w']*$|[^\w\s◌]", name)} <= seen

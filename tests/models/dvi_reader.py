@@ -1,5 +1,5 @@
-"""A reader of DVI files, independent of the product: from docs/FORMATS.md, sections 4 to 7, alone. It gives the listing of a file, or the line of its
-refusal; and the fonts that it defines."""
+"""A reader of DVI files, independent of the product: from docs/FORMATS.md, sections 4 to 7, alone.
+It gives the listing of a file, or the line of its refusal; and the fonts that it defines."""
 import functools
 from dataclasses import dataclass
 from typing import Dict, NamedTuple, Optional, Tuple
@@ -10,7 +10,8 @@ BOP_SIZE, POST_SIZE, MOST_PUSHES, LARGEST_SIZE = 45, 29, 1024, (1 << 27) - 1
 OUTSIDE = {"nop", "fnt_def"}  # The instructions that may stand outside of pages.
 LEAST, GREATEST = -(1 << 31), (1 << 31) - 1
 
-# The instructions with a number of one to four bytes: the code of the first, and at which sizes the number has a sign.
+# The instructions with a number of one to four bytes: the code of the first, and at which sizes the
+# number has a sign.
 AT_FOUR, ALWAYS, NEVER = (False, False, False, True), (True,) * 4, (False,) * 4
 NUMBERED = {
     "set": (128, AT_FOUR),
@@ -34,7 +35,8 @@ PLAIN = {
 }
 PLAIN |= {"set_rule": (132, 8), "put_rule": (137, 8), "bop": (139, 44)}
 PLAIN |= {"pre": (247, 14), "post": (248, 28), "post_post": (249, 5)}
-# Of each code its instruction, the size of the number, whether this has a sign, and the bytes that follow.
+# Of each code its instruction, the size of the number, whether this has a sign, and the bytes that
+# follow.
 CODES = (
     [("set_char", 0, False, 0)] * 128
     + [("", 0, False, 0)] * 43
@@ -47,7 +49,8 @@ for NAME, (CODE, SIGNS) in NUMBERED.items():
     ]
 for NAME, (CODE, SIZE) in PLAIN.items():
     CODES[CODE] = (NAME, 0, False, SIZE)
-# The instructions of which more bytes follow, and where among the others the lengths of these are; that of xxx is its number.
+# The instructions of which more bytes follow, and where among the others the lengths of these are;
+# that of xxx is its number.
 WITH_LENGTHS = {"xxx": (), "fnt_def": (12, 13), "pre": (13,)}
 # Each movement: its direction, and the register that it sets or takes.
 MOVES: Dict[str, Tuple[str, Optional[str]]] = {"right": ("h", None), "down": ("v", None)}
@@ -66,7 +69,8 @@ def require(holds, place, cause):
 
 
 class Instruction(NamedTuple):
-    """An instruction: its place, its name, its number, the place of the bytes after that, and its end."""
+    """An instruction: its place, its name, its number, the place of the bytes after that, and its
+    end."""
 
     place: int
     name: str
@@ -76,7 +80,8 @@ class Instruction(NamedTuple):
 
 
 def instruction_at(data, place, limit):
-    """The instruction at a place. Raises Refused if it is cut off by the limit, or begins with no code."""
+    """The instruction at a place. Raises Refused if it is cut off by the limit, or begins with no
+    code."""
     code = data[place]
     require(code < 250, place, "Opcode")
     name, size, has_sign, more = CODES[code]
@@ -90,8 +95,8 @@ def instruction_at(data, place, limit):
 
 @dataclass(frozen=True)
 class Front:
-    """What is known of a file before its pages are read: the places of post, of post_post and of the bops, the stack depth, and the numbers that are
-    defined after post."""
+    """What is known of a file before its pages are read: the places of post, of post_post and of
+    the bops, the stack depth, and the numbers that are defined after post."""
 
     post: int
     end: int
@@ -115,7 +120,8 @@ def chain_of(data, post):
 
 
 def numbers_after(data, place, end):
-    """The numbers that are defined after post, up to the first instruction that is cut off or no definition and no nop."""
+    """The numbers that are defined after post, up to the first instruction that is cut off or no
+    definition and no nop."""
     numbers = set()
     while place < end:
         try:
@@ -173,7 +179,8 @@ class Reader:
         self.walk(front.post + POST_SIZE, front.end, OUTSIDE)
 
     def walk(self, place, limit, outside):
-        """Takes each instruction up to a place; `outside` are those that may stand there outside of pages."""
+        """Takes each instruction up to a place; `outside` are those that may stand there outside of
+        pages."""
         while place < limit:
             it = instruction_at(self.data, place, limit)
             require(it.name in (outside if self.numbers is None else INSIDE), place, "Opcode")
@@ -284,7 +291,8 @@ def word_of(name):
 
 
 def definitions_after(data):
-    """The definitions after post, in order: the number, and the fields from the check sum on. Raises Refused."""
+    """The definitions after post, in order: the number, and the fields from the check sum on.
+    Raises Refused."""
     reader, found = Reader(data, {}), []
     place, end = reader.front.post + POST_SIZE, reader.front.end
     reader.walk(place, end, OUTSIDE)
@@ -296,13 +304,15 @@ def definitions_after(data):
 
 
 def parts_of(fields):
-    """The fields of a definition: its area, its name, its size, its design size, and its check sum."""
+    """The fields of a definition: its area, its name, its size, its design size, and its check
+    sum."""
     area = 14 + fields[12]
     return fields[14:area], fields[area:], signed(fields[4:8]), signed(fields[8:12]), fields[:4]
 
 
 def fonts_of_file(data):
-    """Reads the fonts of a file. Returns the text that `fonts` prints, and whether the file is accepted."""
+    """Reads the fonts of a file. Returns the text that `fonts` prints, and whether the file is
+    accepted."""
     try:
         definitions = definitions_after(data)
     except Refused as refusal:
@@ -320,7 +330,8 @@ def fonts_of_file(data):
 
 
 def list_file(data, fonts):
-    """Reads a file with these metric files, by their names. Returns the text that `list` prints, and whether the file is accepted."""
+    """Reads a file with these metric files, by their names. Returns the text that `list` prints,
+    and whether the file is accepted."""
     try:
         reader = Reader(data, fonts)
         reader.read()

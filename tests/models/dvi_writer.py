@@ -1,9 +1,11 @@
-"""A small writer of DVI files, independent of the product: from docs/FORMATS.md, sections 5 and 8, alone.
+"""A small writer of DVI files, independent of the product: from docs/FORMATS.md, sections 5 and 8,
+alone.
 
 A body is a list of moves, of bytes and of groups:
 
   right(AMOUNT), down(AMOUNT)   a movement
-  bytes                         an instruction: set_rule(..), put_rule(..), set_char(..), special(..), select(..)
+  bytes                         an instruction: set_rule(..), put_rule(..), set_char(..),
+                                special(..), select(..)
   a list                        a group: push, the body in it, pop"""
 from collections import Counter
 from dataclasses import dataclass
@@ -22,7 +24,8 @@ class Move:
 
 @dataclass(frozen=True)
 class Codes:
-    """The codes of the movements of a direction: without a register, and for each register that of w0 (x0, y0, z0)."""
+    """The codes of the movements of a direction: without a register, and for each register that of
+    w0 (x0, y0, z0)."""
 
     plain: int
     registers: tuple

@@ -1,5 +1,5 @@
-"""A DVI file of one page with every kind of instruction that a page may have, each number in all the sizes that it may take. From docs/FORMATS.md,
-sections 5 and 7, by the tests' own writer."""
+"""A DVI file of one page with every kind of instruction that a page may have, each number in all
+the sizes that it may take. From docs/FORMATS.md, sections 5 and 7, by the tests' own writer."""
 from models.dvi_writer import NO_PAGE, UNITS, number, put_rule, set_rule, xxx
 
 SMALL, LARGE = 10, -2  # The numbers of two fonts, both of the metric file `tiny`.
@@ -15,14 +15,16 @@ def each_size(code, values):
 
 
 def definition(font, size, area=b""):
-    """fnt_def1 to fnt_def4, by the bytes that the number takes. The larger font has 20pt, the other one 10pt."""
+    """fnt_def1 to fnt_def4, by the bytes that the number takes. The larger font has 20pt, the other
+    one 10pt."""
     points = 20 if font == LARGE else 10
     sizes = number(7, 4) + number(points << 16, 4) + number(10 << 16, 4)
     return bytes([242 + size]) + number(font, size) + sizes + bytes([len(area), 4]) + area + b"tiny"
 
 
 def body():
-    """Glyphs, movements with all registers, rules, specials, and the selections of both fonts. The amounts in each register differ from those in others."""
+    """Glyphs, movements with all registers, rules, specials, and the selections of both fonts. The
+    amounts in each register differ from those in others."""
     glyphs = (
         bytes([171 + SMALL, 97])
         + each_size(128, (98, 99, 100, 101))
@@ -46,7 +48,8 @@ def body():
 
 
 def every_instruction():
-    """The bytes of the file. The definitions after post have other sizes than those before it; post allows one push more than there are."""
+    """The bytes of the file. The definitions after post have other sizes than those before it; post
+    allows one push more than there are."""
     front = (
         b"\xf7\x02" + UNITS + b"\x02hi" + NOP + definition(SMALL, 2, b"x") + definition(LARGE, 4)
     )

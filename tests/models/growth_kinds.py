@@ -1,15 +1,21 @@
-"""The possible results of a run in which one growth of memory is refused, and their order from the first growth to the last.
+"""The possible results of a run in which one growth of memory is refused, and their order from the
+first growth to the last.
 
-  n   `refused 1 OutOfMemory` alone, and no file: for the words, the input, the commands, the slots, the registers or the room for the replies; in a
+  n   `refused 1 OutOfMemory` alone, and no file: for the words, the input, the commands, the slots,
+  the registers or the room for the replies; in a
       run on a device in memory, whose bytes are printed, also for the texts at the end
-  w   as without a refusal: a later growth replaces room that is asked for in advance; or a `ship` is refused HugePage, or a paragraph DimensionTooLarge
+  w   as without a refusal: a later growth replaces room that is asked for in advance; or a `ship`
+  is refused HugePage, or a paragraph DimensionTooLarge
       for one of its lines, which is found without memory after a refused growth
-  c   a command answers OutOfMemory; all other answers, the status and the bytes are those of the script without this command
-  d   the growth was one of the device in memory, so it failed in a `ship`: Device, then JobOver, and only the pages before it are in the file
-  e   `end: refused 1 OutOfMemory`: all pages are in the file, and no end
+  c   a command answers OutOfMemory; all other answers, the status and the bytes are those of the
+  script without this command
+  d   the growth was one of the device in memory, so it failed in a `ship`: Device, then JobOver,
+  and only the pages before it are in the file e   `end: refused 1 OutOfMemory`: all pages are in
+  the file, and no end
   f   `end: refused 18 Device`: the same
   t   `refused 1 OutOfMemory` alone, for the texts of the answers: the whole file is written
-  s   a session stops: its last line is `refused 1 OutOfMemory` after the answers of the lines before, whose pages are in the file, and no end"""
+  s   a session stops: its last line is `refused 1 OutOfMemory` after the answers of the lines
+  before, whose pages are in the file, and no end"""
 import re
 from dataclasses import dataclass
 
@@ -21,13 +27,16 @@ MAY_TAKE_MEMORY = {
     *"font hbox vbox vtop par end text char rule kern glue penalty special ship box copy unhbox unhcopy unvbox unvcopy vsplit".split()
 }
 NOTHING, WHOLE, COMMAND, DEVICE, END, END_DEVICE, TEXTS, STOPPED = list("nwcdefts")
-# Only the room for the words, if there are any, is replaced later. The device grows only when its room is used up. A line is answered as soon as it was run,
-# so the texts grow between the commands; a run on a device in memory shows no difference between such a growth and one before the run. Each answer takes room for
-# the longest one, so the texts at the end may find room.
-# A `ship` of a huge page takes up to three pieces before it is refused: for its characters, for the other instructions, and for their places.
-# Where the last line of 61 does not fit, neither the growth for the plan of all lines nor those for the boxes of the 60 lines before hide this.
+# Only the room for the words, if there are any, is replaced later. The device grows only when its
+# room is used up. A line is answered as soon as it was run, so the texts grow between the commands;
+# a run on a device in memory shows no difference between such a growth and one before the run. Each
+# answer takes room for the longest one, so the texts at the end may find room.
+# A `ship` of a huge page takes up to three pieces before it is refused: for its characters, for the
+# other instructions, and for their places. Where the last line of 61 does not fit, neither the
+# growth for the plan of all lines nor those for the boxes of the 60 lines before hide this.
 WHOLE_RUNS = {"a_line_too_large": "w{61}", "refusals_leave_the_job": "w{0,3}"}
-# The room for the answers of a session is there from the start; each line takes some for its command.
+# The room for the answers of a session is there from the start; each line takes some for its
+# command.
 ORDER_OF_A_READING = re.compile("n+w?n+")
 
 
@@ -45,7 +54,8 @@ def order_of(name, task):
 
 @dataclass(frozen=True)
 class Ended:
-    """The result of a run: its status, its output, and the file that it wrote, which is empty if there is none."""
+    """The result of a run: its status, its output, and the file that it wrote, which is empty if
+    there is none."""
 
     status: int
     output: bytes
@@ -55,7 +65,8 @@ class Ended:
 
 @dataclass(frozen=True)
 class Answered:
-    """A run by its answers: the reply of each line with a command, the end, and the bytes that the device took."""
+    """A run by its answers: the reply of each line with a command, the end, and the bytes that the
+    device took."""
 
     replies: dict
     end: str
@@ -71,7 +82,8 @@ class Kind:
 
 
 def answered(ended):
-    """The answers of a run that was answered whole. The lines of digits after them are the bytes of a device in memory."""
+    """The answers of a run that was answered whole. The lines of digits after them are the bytes of
+    a device in memory."""
     head, found, digits = ended.output.partition(b"end: ")
     if not found:
         raise Wrong(f"there is no end: {ended.output[-200:]!r}")
@@ -85,7 +97,8 @@ def answered(ended):
 
 
 def boxes_into_registers(script):
-    """The lines of the commands `end` that put their box into a register: these take no memory. A refused one leaves its list open."""
+    """The lines of the commands `end` that put their box into a register: these take no memory. A
+    refused one leaves its list open."""
     refused = {
         int(line.partition(b":")[0])
         for line in script.answers.splitlines()
@@ -142,14 +155,16 @@ def of_end(script, run, whole):
 
 
 def of_no_answers(ended, whole):
-    """Memory was refused before the script was run, or for the texts after it: then its file is whole."""
+    """Memory was refused before the script was run, or for the texts after it: then its file is
+    whole."""
     if ended.made not in (b"", whole.data):
         raise Wrong(f"nothing was answered, and the file has {len(ended.made)} bytes")
     return Kind(TEXTS if ended.made else NOTHING)
 
 
 def of_stopped(script, ended):
-    """A session stopped for memory: the answers before are those of a beginning of the script, and the file has their pages."""
+    """A session stopped for memory: the answers before are those of a beginning of the script, and
+    the file has their pages."""
     said = ended.output.removesuffix(ALONE)
     if (
         not script.answers.startswith(said)
@@ -163,7 +178,8 @@ def of_stopped(script, ended):
 
 
 def kind_of(script, ended, whole, without):
-    """The kind of a run in which one growth was refused. `whole` are the answers without a refusal, `without` those without the command of a line."""
+    """The kind of a run in which one growth was refused. `whole` are the answers without a refusal,
+    `without` those without the command of a line."""
     if ended.status not in (0, 1) or ended.errors:
         raise Wrong(f"the status is {ended.status}, standard error {ended.errors[:200]!r}")
     if (

@@ -1,7 +1,8 @@
 """The scripts of tests/cases/growths, and their answers if no growth is refused.
 
-NAME.box is the script. NAME.answers are the answers, written by hand; long scripts are made here. The pages below follow from
-docs/FORMATS.md, section 8; their bytes are made by the writer of the tests."""
+NAME.box is the script. NAME.answers are the answers, written by hand; long scripts are made here.
+The pages below follow from docs/FORMATS.md, section 8; their bytes are made by the writer of the
+tests."""
 from dataclasses import dataclass
 
 from common.files import content, read
@@ -26,7 +27,8 @@ def line_of(height, *parts):
 
 
 def column(*heights):
-    """Rules 10pt wide at the left edge: pairs of the distance of its corner below that of the rule before, and its height."""
+    """Rules 10pt wide at the left edge: pairs of the distance of its corner below that of the rule
+    before, and its height."""
     return [
         part
         for below, height in heights
@@ -122,7 +124,8 @@ PAGES = {
 }
 FONTS = ("tiny=tiny.tfm",)
 WITH_FONTS = ("lig_and_kern_words", "fonts_in_nested_boxes", "columns_of_characters")
-# Scripts that are made here, by pairs of a command and its answer: so many lines that they are kept in two blocks, and a line of two readings of a session.
+# Scripts that are made here, by pairs of a command and its answer: so many lines that they are kept
+# in two blocks, and a line of two readings of a session.
 OPEN, RULE_ROWS = ("hbox into 0", "ok"), (
     ("rule 1pt 1pt 0pt", "ok"),
     ("end", "packed 1.0pt 1.0pt 0.0pt badness 0"),
@@ -139,7 +142,8 @@ MADE = {
     ),
     "a_long_line": (OPEN, ("special " + "s" * 65535, "ok"), *RULE_ROWS, ("ship 0", "shipped 1")),
 }
-# The files that are read: those of the shorter scripts of the same names, without the pages after the first.
+# The files that are read: those of the shorter scripts of the same names, without the pages after
+# the first.
 ONE_RULE_FILE = dvi_file([Page(ONE_RULE)], PT, PT).data
 NESTED_BOXES_FILE = dvi_file(
     [Page(NESTED_BOXES, new_fonts=(AT_10PT, AT_20PT))], 15 * PT, 25 * PT
@@ -188,7 +192,8 @@ READINGS = {
     "list_pages_of_rules": (("list", "f.dvi"), RULES_FILE, RULES),
     "paint_a_wide_sheet": ((*SHEET, *FONTS), NESTED_BOXES_FILE, WHITE_SHEET),
 }
-# Commands of many growths, by script and line: copies that run out halfway. Each must have met more than one refused growth.
+# Commands of many growths, by script and line: copies that run out halfway. Each must have met more
+# than one refused growth.
 HALFWAY = {
     "fonts_in_nested_boxes": {14: "copy 0", 15: "unhcopy 0"},
     "specials": {10: "copy 0", 11: "unhcopy 0"},
@@ -198,7 +203,8 @@ HALFWAY = {
 
 @dataclass(frozen=True)
 class Script:
-    """A script: its words, its lines, its answers, its status, and the file that it writes, with the place after each page."""
+    """A script: its words, its lines, its answers, its status, and the file that it writes, with
+    the place after each page."""
 
     name: str
     words: tuple
@@ -210,7 +216,8 @@ class Script:
 
 
 def read_script(name, root, task):
-    """A script of tests/cases/growths, or one that is made here, which is run to a file by `typeset` or `session`, or without a task on a device in memory."""
+    """A script of tests/cases/growths, or one that is made here, which is run to a file by
+    `typeset` or `session`, or without a task on a device in memory."""
     pages, height, width = PAGES[name]
     file = dvi_file(pages, int(height * PT), width * PT)
     if name in MADE:

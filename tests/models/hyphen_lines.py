@@ -1,7 +1,9 @@
-"""What the lines of pages show, from the bytes of a DVI file, and the rows that tests/cases/hyphens/lines.txt has of it."""
+"""What the lines of pages show, from the bytes of a DVI file, and the rows that
+tests/cases/hyphens/lines.txt has of it."""
 from models.dvi_reader import CODES
 
-# The settings in which two lists of breaks cost the same, and TeX takes another one than boxglue (docs/COMMANDS.md, section 4).
+# The settings in which two lists of breaks cost the same, and TeX takes another one than boxglue
+# (docs/COMMANDS.md, section 4).
 TIES = {"p556 345 200", "p556 345 9999"}
 LIGATURES = {11: "ff", 12: "fi", 13: "fl", 14: "ffi", 15: "ffl", 123: "--", 124: "---"}
 CHARACTERS = [LIGATURES.get(it, chr(it)) for it in range(256)]
@@ -11,7 +13,8 @@ MORE = {"fnt_def": (12, 13)}
 
 
 def shown_lines(dvi):
-    """The lines of each page, from above: the characters that stand at one height, with the letters of ligatures."""
+    """The lines of each page, from above: the characters that stand at one height, with the letters
+    of ligatures."""
     pages, at, end = [], 15 + dvi[14], len(dvi)
     lines, v, registers, saved = {}, 0, {"y": 0, "z": 0}, []
     while at < end and dvi[at] != 248:
@@ -75,7 +78,8 @@ def rows_of(text):
 
 
 def difference(row, decided, demerits, lines):
-    """What differs from a row of TeX, or None. Where no pass of TeX decided, the third one has to."""
+    """What differs from a row of TeX, or None. Where no pass of TeX decided, the third one has
+    to."""
     found = [str(decided), *([str(demerits), counts_of(lines)] if decided < 3 else ["0", ""])]
     wanted = row[3:]
     if " ".join(row[:3]) in TIES:

@@ -1,5 +1,6 @@
-"""The paragraphs of the tests of hyphens: 600 texts by a fixed rule, with hyphens and dashes in words, and with discretionaries. Braces have the three parts of one:
-{k-|k|ck} is the \\discretionary{k-}{k}{ck} of TeX."""
+"""The paragraphs of the tests of hyphens: 600 texts by a fixed rule, with hyphens and dashes in
+words, and with discretionaries. Braces have the three parts of one: {k-|k|ck} is the
+\\discretionary{k-}{k}{ck} of TeX."""
 import re
 
 COUNT = 600

@@ -1,6 +1,8 @@
-"""Makes large inputs and the expected answers: by arithmetic from docs/COMMANDS.md and docs/FORMATS.md, never by the program.
+"""Makes large inputs and the expected answers: by arithmetic from docs/COMMANDS.md and
+docs/FORMATS.md, never by the program.
 
-Each function returns a `Work`: files, and runs over them. The lengths 80,104 and 230,341 are asserted, since they were worked out by hand."""
+Each function returns a `Work`: files, and runs over them. The lengths 80,104 and 230,341 are
+asserted, since they were worked out by hand."""
 from dataclasses import replace
 
 from common.long_runs import Run, Sparse, Work
@@ -70,7 +72,8 @@ def hexadecimal(data):
 
 
 def listed(pages):
-    """The listing of pages, each its marks: (height, width, h, v) of a rule, (font, code, h, v) of a glyph with its word before it."""
+    """The listing of pages, each its marks: (height, width, h, v) of a rule, (font, code, h, v) of
+    a glyph with its word before it."""
     lines = []
     for at, (counts, marks) in enumerate(pages, 1):
         lines.append(f"page {at} counts {counts}\n")
@@ -84,7 +87,8 @@ def rule_mark(h, v, height, width):
 
 
 def special_mark(h, v, text):
-    """The line of a special: a byte that is not printable, and a backslash, is a backslash and two hexadecimal digits."""
+    """The line of a special: a byte that is not printable, and a backslash, is a backslash and two
+    hexadecimal digits."""
     return f"special {h} {v} " + "".join(
         chr(it) if 32 <= it < 127 and it != 92 else f"\\{it:02x}" for it in text
     )
@@ -107,7 +111,8 @@ def typeset_and_list(file, runs_answers, lines, marks, fonts=()):
 
 
 def long_script():
-    """A script of 307,200 bytes: 15,000 kerns of 1sp, a comment after each tenth of them, and a rule. And the output of the program without words."""
+    """A script of 307,200 bytes: 15,000 kerns of 1sp, a comment after each tenth of them, and a
+    rule. And the output of the program without words."""
     head, tail, comments = "hbox into 0\n", "rule 1pt 1pt 0pt\nend\nship 0\n", 1500
     room = 307200 - len(head) - len(tail) - 15000 * len("kern 1sp\n")
     each, more = divmod(room, comments)
@@ -167,7 +172,8 @@ def rules_marks():
 
 
 def pixels(length, dpi):
-    """A length of DVI units in pixels, as numerator and denominator (FORMATS.md, section 11, with the units of section 8)."""
+    """A length of DVI units in pixels, as numerator and denominator (FORMATS.md, section 11, with
+    the units of section 8)."""
     return length * 25400000 * 1000 * dpi, 254000 * 473628672 * 1000
 
 
@@ -241,7 +247,8 @@ def page_of_rules():
 
 
 def one_column(count, dpi, width, height):
-    """The bitmap of `count` rules of 1pt by 1pt below each other at the left edge, the first with its upper edge at the top."""
+    """The bitmap of `count` rules of 1pt by 1pt below each other at the left edge, the first with
+    its upper edge at the top."""
     black = {
         rounded(at * PT, dpi) - up
         for at in range(1, count + 1)
@@ -285,8 +292,9 @@ def long_answers():
 
 
 def page_of_instructions():
-    """A page whose body has 160,005 instructions and 80,000 marks: two vboxes of 40,000 rules side by side, in an hbox. Painted at 10,000 dots an inch, they are
-    138 and 139 columns wide, and the upper 85 rows of the sheet."""
+    """A page whose body has 160,005 instructions and 80,000 marks: two vboxes of 40,000 rules side
+    by side, in an hbox. Painted at 10,000 dots an inch, they are 138 and 139 columns wide, and the
+    upper 85 rows of the sheet."""
     count = 40000
     lines = [
         "vbox into 1",
@@ -326,8 +334,10 @@ LAST_WORD = RULES_OF_A_WORD + (1,)
 
 
 def paragraph_lines():
-    """The widths of the rules of each line: 8,192 words 1pt wide with glue of 0pt plus 1pt between. 40 words fill a line of 40pt: no line has more,
-    so there are at least 205 lines, and each costs at least 100, by the 10 of linepenalty. Of the lists that cost 20,500 the one with later places wins.
+    """The widths of the rules of each line: 8,192 words 1pt wide with glue of 0pt plus 1pt between.
+    40 words fill a line of 40pt: no line has more, so there are at least 205 lines, and each costs
+    at least 100, by the 10 of linepenalty. Of the lists that cost 20,500 the one with later places
+    wins.
     """
     words = [RULES_OF_A_WORD] * 8191 + [LAST_WORD]
     return [[width for word in words[at : at + 40] for width in word] for at in range(0, 8192, 40)]
@@ -380,8 +390,9 @@ MOST_PLACES = 8192
 
 
 def most_lines():
-    """A paragraph of 8,192 lines, as many as it may have places: after each rule but the last is a forced place. The glue between lines is 1pt, and
-    16,383pt is the greatest height of whole points. A line fits exactly, so it costs 100, by the 10 of linepenalty.
+    """A paragraph of 8,192 lines, as many as it may have places: after each rule but the last is a
+    forced place. The glue between lines is 1pt, and 16,383pt is the greatest height of whole
+    points. A line fits exactly, so it costs 100, by the 10 of linepenalty.
     """
     height = (2 * MOST_PLACES - 1) * PT
     rules = ["rule 1pt 1pt 0pt", *["penalty -10000", "rule 1pt 1pt 0pt"] * (MOST_PLACES - 1)]
@@ -412,7 +423,8 @@ def most_lines():
 
 
 def split_and_measured(front, rest):
-    """The answers of a `vsplit` without badness, of a `measure` of its front and of one of its rest."""
+    """The answers of a `vsplit` without badness, of a `measure` of its front and of one of its
+    rest."""
     return [
         f"split {front} badness 0 rest {rest}",
         f"measured vbox {front}",
@@ -421,8 +433,9 @@ def split_and_measured(front, rest):
 
 
 def split_halfway():
-    """32,768 rules 1sp high with glue of 1sp after each, split to 32,767sp: the front of 16,384 rules is exactly as high, and the next place is awful. In
-    the rest the first glue is dropped, and splittopskip of 10pt less 1sp comes first."""
+    """32,768 rules 1sp high with glue of 1sp after each, split to 32,767sp: the front of 16,384
+    rules is exactly as high, and the next place is awful. In the rest the first glue is dropped,
+    and splittopskip of 10pt less 1sp comes first."""
     lines = [
         "vbox into 0",
         *["rule 1pt 1sp 0sp", "glue 1sp"] * 32768,
@@ -434,7 +447,8 @@ def split_halfway():
 
 
 def split_at_the_start():
-    """A forced place before 65,535 rules: the front is empty, and the rest has 65,536 items: splittopskip replaces the penalty."""
+    """A forced place before 65,535 rules: the front is empty, and the rest has 65,536 items:
+    splittopskip replaces the penalty."""
     lines = [
         "vbox into 0",
         "penalty -10000",
@@ -465,7 +479,8 @@ def long_splits():
 
 
 def large_bitmap():
-    """10,000 by 10,000 pixels with rules in its corners, over its edges, over each other and beyond them."""
+    """10,000 by 10,000 pixels with rules in its corners, over its edges, over each other and beyond
+    them."""
     inch = 4736286
     rules = [
         (0, inch // 2, inch // 2, inch // 3),
@@ -505,7 +520,8 @@ class Blocks:
 
 
 def many_pages():
-    """A DVI file of 131,072 pages, of which post says 0. The first count is the page; page 65,537 and the last one have a rule."""
+    """A DVI file of 131,072 pages, of which post says 0. The first count is the page; page 65,537
+    and the last one have a rule."""
     count, body = 131072, [down(PT), set_rule(PT, PT)]
     counts = [(at, *[0] * 9) for at in range(1, count)] + [(-1, *[7] * 9)]
     bodies = {65537: body, count: body}
@@ -600,7 +616,8 @@ def most_nodes():
 
 
 def high_font_numbers():
-    """A DVI file with the fonts 255, 256, 65,535, 65,536 and 70,000: numbers of one, two and three bytes."""
+    """A DVI file with the fonts 255, 256, 65,535, 65,536 and 70,000: numbers of one, two and three
+    bytes."""
     fonts = [Font(it, b"tiny") for it in (255, 256, 65535, 65536, 70000)]
     body = [piece for it in fonts for piece in (select(it.number), set_char(99))]
     file = dvi_file([Page(body, new_fonts=tuple(fonts))], 5 * PT, 25 * PT)
@@ -644,7 +661,8 @@ def rules_and_fonts():
 
 
 def with_bad_font(file):
-    """The bytes of this file with the size 0 in the last definition after post, and the place of this definition."""
+    """The bytes of this file with the size 0 in the last definition after post, and the place of
+    this definition."""
     font = FONTS_OF_RULES[1]
     place = file.data.rindex(definition(font))
     assert place > file.post
@@ -674,7 +692,8 @@ def fonts_of_rules():
 
 
 def all_slots():
-    """256 fonts are given and used, each in its slot at a size of its own: `c` is half as wide and as high."""
+    """256 fonts are given and used, each in its slot at a size of its own: `c` is half as wide and
+    as high."""
     sizes_at = [655360 + 2 * slot for slot in range(256)]
     lines = [
         line
@@ -706,7 +725,8 @@ def all_slots():
 
 
 def many_words():
-    """300 words on the command line: `typeset`, its file and 298 fonts, of which the first and the last are used."""
+    """300 words on the command line: `typeset`, its file and 298 fonts, of which the first and the
+    last are used."""
     words = tuple(f"n{at}=tiny.tfm" for at in range(298))
     assert len(words) + 2 == 300
     lines = "font 0 n0; font 1 n297; hbox into 0; use 0; text c; use 1; text c; end; ship 0".split(
@@ -733,7 +753,8 @@ def text_of(count):
 
 
 def long_texts():
-    """A `text` that would make the list too long adds nothing, and one that fills it is shipped. At 100sp `c` is 50sp wide and high."""
+    """A `text` that would make the list too long adds nothing, and one that fills it is shipped. At
+    100sp `c` is 50sp wide and high."""
     too_long, box = "refused 10 ListTooLong", packed(65536 * 50, 50, 0)
     added = lambda count: (text_of(count), f"added {count} missing 0")
     rows = [
@@ -773,8 +794,9 @@ def long_texts():
 
 
 def longest_texts():
-    """A `text` of 20 MB that would make the list too long adds nothing, and one of as many missing characters is looked through to its end: each with
-    100 MB of memory, at once and in a session. With 32 bytes for each character the first would take 640 MB.
+    """A `text` of 20 MB that would make the list too long adds nothing, and one of as many missing
+    characters is looked through to its end: each with 100 MB of memory, at once and in a session.
+    With 32 bytes for each character the first would take 640 MB.
     """
     size = 20_000_000
     page = Page([down(50), select(0), set_char(99) * 4], new_fonts=(Font(0, b"tiny", 100),))
@@ -821,7 +843,8 @@ def longest_texts():
 
 
 def many_characters():
-    """A page of 262,144 characters, in four boxes of 65,536, typeset, listed and painted: a bitmap shows no character."""
+    """A page of 262,144 characters, in four boxes of 65,536, typeset, listed and painted: a bitmap
+    shows no character."""
     width = 65536 * 50
     lines = [
         "font 0 tiny at 100sp",
@@ -883,7 +906,8 @@ def long_listing():
 
 
 def glyphs_between_rules():
-    """A page of 2,000,000 glyphs and a special between two rules is painted in 20 MB beside its file: no glyph is kept."""
+    """A page of 2,000,000 glyphs and a special between two rules is painted in 20 MB beside its
+    file: no glyph is kept."""
     inch = 4736286
     glyphs = [select(0), set_char(99) * 2000000]
     body = [
@@ -907,9 +931,10 @@ STEPS, KERNS = 16203, 16000
 
 
 def large_metric_file():
-    """A metric file of 130,000 bytes, 32,500 words, most of them steps and kerns. Character 97 has a program whose first step names a later one as its
-    beginning, and of this one the first 200 steps are for other characters; the next one puts the last kern in front of character 98. A kern is its
-    number times 16 in a fix word, so its number times 10 at 10pt."""
+    """A metric file of 130,000 bytes, 32,500 words, most of them steps and kerns. Character 97 has
+    a program whose first step names a later one as its beginning, and of this one the first 200
+    steps are for other characters; the next one puts the last kern in front of character 98. A kern
+    is its number times 16 in a fix word, so its number times 10 at 10pt."""
     parameters = 32500 - 6 - 2 - 2 - 2 - 1 - 1 - 1 - STEPS - KERNS
     head = [32500, 2, 97, 98, 2, 1, 1, 1, STEPS, KERNS, 0, parameters]
     assert 6 + 2 + 2 + 2 + 1 + 1 + 1 + STEPS + KERNS + parameters == 32500
@@ -957,7 +982,8 @@ def large_font():
 
 
 def greatest_file():
-    """A file of 268,435,456 bytes is read: as a DVI file the bytes 223 at its end are missing, as a script its first line has a byte 0."""
+    """A file of 268,435,456 bytes is read: as a DVI file the bytes 223 at its end are missing, as a
+    script its first line has a byte 0."""
     trailer = f"refused 20 BadDvi {READ_LIMIT} Trailer\n".encode()
     return Work(
         {"limit": Sparse(READ_LIMIT)},
@@ -983,7 +1009,8 @@ def too_large_file():
 
 
 def slow_pipes():
-    """A script comes in uneven pieces, and its answers, the bytes of its file and a listing go into a pipe of 4,096 bytes that is read slowly."""
+    """A script comes in uneven pieces, and its answers, the bytes of its file and a listing go into
+    a pipe of 4,096 bytes that is read slowly."""
     text, printed = rules_script()
     file, listing = rules_file(), listed([(ZERO_COUNTS, rules_marks())])
     return Work(

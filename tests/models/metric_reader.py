@@ -13,8 +13,8 @@ class Refused(Exception):
 
 @dataclass(frozen=True)
 class Metrics:
-    """What is needed of a file: the first character, for each character from there the index of its width, all widths, and all words that have to fit
-    at a size."""
+    """What is needed of a file: the first character, for each character from there the index of its
+    width, all widths, and all words that have to fit at a size."""
 
     first: int
     indices: tuple
@@ -67,7 +67,8 @@ def check_character(word, counts):
 
 
 def check_step(step, at, counts, characters):
-    """Refuses a step of a ligature and kern program that leads or points past the end of its table."""
+    """Refuses a step of a ligature and kern program that leads or points past the end of its
+    table."""
     skip, _, op, remainder = step
     if skip > 128:
         require(256 * op + remainder < counts["nl"], "LigKern")
@@ -124,7 +125,8 @@ def scaled(word, size):
 
 
 def widths_at(metrics, size):
-    """The widths of the characters at a size, by their codes, or raises Refused if a dimension does not fit."""
+    """The widths of the characters at a size, by their codes, or raises Refused if a dimension does
+    not fit."""
     if any(abs(scaled(word, size)) > GREATEST for word in metrics.sized):
         raise Refused("3 DimensionTooLarge")
     return {

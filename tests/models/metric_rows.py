@@ -1,4 +1,5 @@
-"""What the call for metrics has to give for a metric file at a size, as lines: by the tests' own reader of metric files, and by what tftopl prints."""
+"""What the call for metrics has to give for a metric file at a size, as lines: by the tests' own
+reader of metric files, and by what tftopl prints."""
 import functools
 import re
 from dataclasses import dataclass, field
@@ -14,8 +15,9 @@ TOKEN = re.compile(r"[()]|[^()\s]+")
 
 @dataclass
 class Rows:
-    """A font in words of a metric file: its design size, its check sum, its first seven parameters; by their codes the width, height, depth and italic correction of each
-    character; and by pairs of codes the kern, as a word, or the character of a ligature."""
+    """A font in words of a metric file: its design size, its check sum, its first seven parameters;
+    by their codes the width, height, depth and italic correction of each character; and by pairs of
+    codes the kern, as a word, or the character of a ligature."""
 
     design_word: int
     check_sum: int
@@ -26,7 +28,8 @@ class Rows:
 
 
 def first_steps(program):
-    """The kern or the character of each following character, by the first of these steps that applies: pairs of the following character, and what it has."""
+    """The kern or the character of each following character, by the first of these steps that
+    applies: pairs of the following character, and what it has."""
     found = {}
     for following, its in program:
         found.setdefault(following, its)
@@ -34,7 +37,8 @@ def first_steps(program):
 
 
 def program_of(remainder, steps):
-    """The steps of a program from this one on that are kerns or plain ligatures: the following character of each, with its operation and its remainder."""
+    """The steps of a program from this one on that are kerns or plain ligatures: the following
+    character of each, with its operation and its remainder."""
     at = 256 * steps[remainder][2] + steps[remainder][3] if steps[remainder][0] > 128 else remainder
     while at < len(steps):
         skip, following, op, rest = steps[at]
@@ -97,7 +101,8 @@ def named(properties, name, otherwise="0"):
 
 
 def rows_of_text(text):
-    """The rows of the property list that tftopl prints of a file, with characters as octal numbers."""
+    """The rows of the property list that tftopl prints of a file, with characters as octal
+    numbers."""
     properties = [it for it in parsed(text) if isinstance(it, list)]
     dimensions = next((it[1:] for it in properties if it[0] == "FONTDIMEN"), [])
     # A parameter without a name of its own is (PARAMETER D number R value).

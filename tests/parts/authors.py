@@ -1,6 +1,8 @@
-"""The commands of docs/AUTHORS.md, run in their order in a copy of examples/, with a metric file of plain width for cmr10: none is refused anything. What the pages of
-its program in Python and of examples/layout show follows from the texts that they were given. The script, the answers, the listing, the bytes and the edit of docs/TOUR.md are those that there are.
-The two times of README.md are those of docs/internal/GATE.md, rounded."""
+"""The commands of docs/AUTHORS.md, run in their order in a copy of examples/, with a metric file of
+plain width for cmr10: none is refused anything. What the pages of its program in Python and of
+examples/layout show follows from the texts that they were given. The script, the answers, the
+listing, the bytes and the edit of docs/TOUR.md are those that there are. The two times of README.md
+are those of docs/internal/GATE.md, rounded."""
 import glob
 import os
 import re
@@ -21,7 +23,8 @@ PROGRAM = "library"
 NEEDS_PROGRAM = True
 # Long enough for a machine with much other work: it only ends what stands still.
 LIMIT = 900
-# What comes before and after the calls of the document: they are made so often that pages are cut off the galley.
+# What comes before and after the calls of the document: they are made so often that pages are cut
+# off the galley.
 TIMES = 200
 # The distance of baselines of a new job, 12pt.
 BASELINESKIP = 12 * 65536
@@ -52,7 +55,8 @@ def blocks(root, name="AUTHORS"):
 
 
 class Room:
-    """A folder with the examples, a metric file for cmr10, and the program on the path; and the library for Python, where an archive is given."""
+    """A folder with the examples, a metric file for cmr10, and the program on the path; and the
+    library for Python, where an archive is given."""
 
     def __init__(self, root, program, folder, archive=None):
         self.program, self.folder, self.root = program, folder, root
@@ -103,7 +107,8 @@ def steps_between_baselines(listing):
 
 
 def check_calls(room):
-    """The calls of the document, and splits until there is no rest: all are accepted, each paragraph is on a page, and the baselines of a page are 12pt apart."""
+    """The calls of the document, and splits until there is no rest: all are accepted, each
+    paragraph is on a page, and the baselines of a page are 12pt apart."""
     (calls,) = re.findall(
         r"^```python\n(.*?)^```$", read(f"{room.root}/docs/AUTHORS.md"), re.M | re.S
     )
@@ -151,7 +156,8 @@ def check_contents(room):
 
 
 def check_book(room):
-    """The contents have the pages where the chapters begin, a reference has its page, and each footnote is on the page of its mark, below it."""
+    """The contents have the pages where the chapters begin, a reference has its page, and each
+    footnote is on the page of its mark, below it."""
     text, (contents, *pages) = room.text("examples/layout/book.txt"), room.pages("book")
     titles, notes = re.findall(r"^# (.*)$", text, re.M), re.findall(r"\^\[(.*?)\]", text)
     # The title stands in the head of the page, before the page's number, and once more below it.
@@ -223,7 +229,8 @@ CHECKS = {
 
 
 def check_bytes(drawing, dvi):
-    """The bytes of a drawing, a line each, stand in the file in this order: two dots leave some out, and what follows two spaces tells what they are."""
+    """The bytes of a drawing, a line each, stand in the file in this order: two dots leave some
+    out, and what follows two spaces tells what they are."""
     place = 0
     for line in drawing.splitlines():
         for part in line.split("  ")[0].split(" .. "):
@@ -295,7 +302,8 @@ def asking(room):
 
 
 def times(root):
-    """README.md rounds to whole minutes how long its first command takes, and to whole hours how long the proofs do."""
+    """README.md rounds to whole minutes how long its first command takes, and to whole hours how
+    long the proofs do."""
     gate, readme = read(f"{root}/docs/internal/GATE.md"), read(f"{root}/README.md")
     minutes = round(
         int(

@@ -1,9 +1,12 @@
-"""Wrong bodies that every contract lets through, and a test has to refuse: crates/NAME/refused-by-tests/*.edit. Such an edit has the lines of those in
-must-fail/, and either a line `test: CRATE::MODULE::NAME`, or the lines `case: PART/NAME` and `says: TEXT`. It is made in a copy of the crates. There its test is run by
-`rt try --test`, or its case over the program or the library without proofs; and it has to fail, a case with this text.
+"""Wrong bodies that every contract lets through, and a test has to refuse:
+crates/NAME/refused-by-tests/*.edit. Such an edit has the lines of those in must-fail/, and either a
+line `test: CRATE::MODULE::NAME`, or the lines `case: PART/NAME` and `says: TEXT`. It is made in a
+copy of the crates. There its test is run by `rt try --test`, or its case over the program or the
+library without proofs; and it has to fail, a case with this text.
 
-A build takes a minute or two, so edits share one. No two edits of a build replace the same line, or have the same test or case. A case has to fail over its own edit:
-its input must not reach what the other edits change, and TEXT is what only its own edit makes it say."""
+A build takes a minute or two, so edits share one. No two edits of a build replace the same line, or
+have the same test or case. A case has to fail over its own edit: its input must not reach what the
+other edits change, and TEXT is what only its own edit makes it say."""
 import functools
 import glob
 import itertools
@@ -27,7 +30,8 @@ WEIGHT = 3
 
 @dataclass(frozen=True)
 class Edit:
-    """An edit: its crate, its file there, the lines that it replaces, and those that it puts there; and the names of its tests or cases, with what these say."""
+    """An edit: its crate, its file there, the lines that it replaces, and those that it puts there;
+    and the names of its tests or cases, with what these say."""
 
     crate: str
     name: str
@@ -39,7 +43,8 @@ class Edit:
     says: tuple
 
     def stands_beside(self, other):
-        """Whether a build may have both: they replace no line of each other, and no test or case is for both."""
+        """Whether a build may have both: they replace no line of each other, and no test or case is
+        for both."""
         is_one_file = (self.crate, self.file) == (other.crate, other.file)
         return not (is_one_file and {*self.old} & {*other.old}) and not {
             *self.tests,
@@ -85,7 +90,8 @@ class Tests:
 
     @functools.cached_property
     def found(self):
-        """What is wrong with each edit that cannot be made; the results of the tests by their names; and the end of what was printed."""
+        """What is wrong with each edit that cannot be made; the results of the tests by their
+        names; and the end of what was printed."""
         names = {it.tests[0].partition("::")[2] for it in self.edits}
         others = [it for it in tests_in(f"{self.root}/crates/{self.crate}/src") if it not in names]
         with tree_without(others, self.crate, self.root) as tree:
@@ -94,7 +100,8 @@ class Tests:
         return wrong, outcomes((output + errors).decode(errors="replace")), last_lines(errors)
 
     def outcome(self, edit):
-        """What is wrong with an edit: it cannot be made, or its test is not run, or does not fail."""
+        """What is wrong with an edit: it cannot be made, or its test is not run, or does not
+        fail."""
         wrong, found, end = self.found
         name = edit.tests[0].partition("::")[2]
         if wrong[edit] or name not in found:
@@ -110,7 +117,8 @@ class Cases:
 
     @functools.cached_property
     def built(self):
-        """What is wrong with each edit that cannot be made; the path of what is built; and why it is not built, or None."""
+        """What is wrong with each edit that cannot be made; the path of what is built; and why it
+        is not built, or None."""
         out = f"{own_folder()}/{self.program}-{self.edits[0].crate}-{self.edits[0].name}"
         with tree_without([], "boxglue", self.root) as tree:
             wrong = {it: made(it, tree) for it in self.edits}
@@ -123,7 +131,8 @@ class Cases:
         return wrong, out, last_lines(errors) if status else None
 
     def outcome(self, edit):
-        """What is wrong with an edit: it cannot be made or built, or its case does not fail as it says. A case that is skipped is skipped here."""
+        """What is wrong with an edit: it cannot be made or built, or its case does not fail as it
+        says. A case that is skipped is skipped here."""
         wrong, out, unbuilt = self.built
         if wrong[edit] or unbuilt:
             return wrong[edit] or f"the {self.program} is not built: {unbuilt}"
@@ -151,7 +160,8 @@ def key_of(edit, root):
 
 
 def builds(root, edits):
-    """The edits with their builds: each edit goes into the first one where it may stand beside the others."""
+    """The edits with their builds: each edit goes into the first one where it may stand beside the
+    others."""
     found = {}
     for edit in edits:
         groups = found.setdefault(key_of(edit, root), [])

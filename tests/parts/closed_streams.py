@@ -1,5 +1,6 @@
-"""Standard streams that are closed, where folders cannot be opened: a small library that opens no file of some paths is put before a built program by
-LD_PRELOAD. The next file that is opened has the number of a closed stream; where that is the file of the pages, answers go into it."""
+"""Standard streams that are closed, where folders cannot be opened: a small library that opens no
+file of some paths is put before a built program by LD_PRELOAD. The next file that is opened has the
+number of a closed stream; where that is the file of the pages, answers go into it."""
 import functools
 import itertools
 import tempfile
@@ -19,7 +20,8 @@ TASKS = {"memory": (), "typeset": ("typeset", "out.dvi"), "session": ("session",
 
 
 def expected(case, words, closed):
-    """The status, both outputs and the file of a run: without its input nothing is written, and without its output the file is whole."""
+    """The status, both outputs and the file of a run: without its input nothing is written, and
+    without its output the file is whole."""
     made, pages = read(case, "made/out.dvi"), b""
     if not words:
         # The pages are printed in lines of sixteen bytes.
@@ -52,7 +54,8 @@ def wrong_in(case, words, paths, closed, program):
 
 
 def wrong_refusals(paths):
-    """Says which folders a shell opens although it must not, or does not open although it may; or returns None."""
+    """Says which folders a shell opens although it must not, or does not open although it may; or
+    returns None."""
     with tempfile.TemporaryDirectory(prefix="boxglue-closed-") as folder:
         opened = {
             it
@@ -64,7 +67,8 @@ def wrong_refusals(paths):
 
 
 def cases(programs, root):
-    """The folders that a shell can open, so that a library that refuses nothing is seen; then each task with each set of closed streams."""
+    """The folders that a shell can open, so that a library that refuses nothing is seen; then each
+    task with each set of closed streams."""
     for what, paths in REFUSED.items():
         yield f"a shell, {what}", functools.partial(wrong_refusals, paths)
     case = f"{root}/tests/cases/program/typeset_a_page_to_its_file"

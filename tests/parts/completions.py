@@ -1,5 +1,6 @@
-"""The files of completions/ and the options of the manual page: they have the subcommands and options of the program's help, and no others.
-The help is that of the built program; without one it is that of tests/cases/program, which the program has to print."""
+"""The files of completions/ and the options of the manual page: they have the subcommands and
+options of the program's help, and no others. The help is that of the built program; without one it
+is that of tests/cases/program, which the program has to print."""
 import re
 from functools import partial
 
@@ -9,7 +10,8 @@ from common.running import finished
 
 TITLE = "completions/ and the manual page: the words of the program's help"
 TRIES = False
-# Prints the completions of bash: its words are the words of the line, of which the last is completed.
+# Prints the completions of bash: its words are the words of the line, of which the last is
+# completed.
 BASH = """source "$1"; shift; COMP_WORDS=("$@"); COMP_CWORD=$(($# - 1)); _boxglue; printf '%s\\n' "${COMPREPLY[@]}" """
 FISH = 'source $argv[1]; complete -C "$argv[2]"'
 
@@ -60,7 +62,8 @@ def of_bash(folder):
 
 
 def of_zsh(folder):
-    """The words of the file for zsh: the options of each block that has one, and those before the blocks."""
+    """The words of the file for zsh: the options of each block that has one, and those before the
+    blocks."""
     text = read(f"{folder}/_boxglue")
     described = {*re.findall(r"^ +'([a-z]+):", text, re.M)}
     first, *blocks = re.split(r"^    (\w+)\)$", text, flags=re.M)
@@ -103,7 +106,8 @@ def of_fish(folder):
 
 
 def of_manual(folder):
-    """The words of the manual page: those of its synopsis, and `--help` and `--version`, which its options name."""
+    """The words of the manual page: those of its synopsis, and `--help` and `--version`, which its
+    options name."""
     text = read(f"{folder}/../docs/boxglue.1").replace("\\-", "-")
     synopsis, _, options = text.partition(".SH DESCRIPTION")
     lines = [
@@ -135,7 +139,8 @@ def outcome(found, programs, root):
 
 
 def paths_of_bash(root):
-    """After a `=` bash completes a path, and no option; after an option with a number it completes nothing."""
+    """After a `=` bash completes a path, and no option; after an option with a number it completes
+    nothing."""
     path, start = f"{root}/completions/boxglue.bash", f"{root}/examples/plain.t"
     lines = [
         ("list", "out.dvi", "plain", "=", start),

@@ -1,4 +1,5 @@
-"""The #[test] functions of each crate that has some, built and run by `rt try --test`: a part for each crate."""
+"""The #[test] functions of each crate that has some, built and run by `rt try --test`: a part for
+each crate."""
 import functools
 import glob
 import os
@@ -21,7 +22,8 @@ LEFT_OUT = {
 }
 WHY = "no answer within five minutes as rt try compiles it; rt ci runs it"
 
-# Seconds for each test: the longest takes half a minute on a quiet machine, and much more beside other work.
+# Seconds for each test: the longest takes half a minute on a quiet machine, and much more beside
+# other work.
 LIMIT = 300
 
 
@@ -36,7 +38,8 @@ def tests_in(folder):
 
 
 def outcomes(printed):
-    """The result of each test by `rt try --test`: None if it is ok, otherwise the lines about it."""
+    """The result of each test by `rt try --test`: None if it is ok, otherwise the lines about
+    it."""
     found = {}
     for name, how, more in re.findall(r"^test (\S+) \.\.\. (\w+)\n((?: .*\n)*)", printed, re.M):
         found[name] = (
@@ -69,7 +72,8 @@ def tree_without(names, crate, root):
 
 
 def run_tests(root, crate, names, left_out):
-    """Runs these tests of a crate, once for all of its cases. Returns the results by their names."""
+    """Runs these tests of a crate, once for all of its cases. Returns the results by their
+    names."""
     with tree_without(left_out, crate, root) if left_out else nullcontext(root) as tree:
         _, output, errors = rt_try(tree, crate, ["--test", "--seconds", str(LIMIT)])
     found = outcomes((output + errors).decode(errors="replace"))

@@ -1,4 +1,5 @@
-"""DVI files at the edges of their numbers. Each is made by arithmetic from docs/FORMATS.md, section 7, which also has the expected answers."""
+"""DVI files at the edges of their numbers. Each is made by arithmetic from docs/FORMATS.md, section
+7, which also has the expected answers."""
 from common.long_runs import Run, Work
 from common.part import in_turn
 from models.dvi_writer import Font, Page, definition, down, dvi_file, number, put_rule, right
@@ -50,8 +51,9 @@ def work(*files):
 
 
 def each_special():
-    """xxx1 to xxx4, each with those lengths of a list up to 70,000 that it can have; the texts have all bytes in turn. A special moves nothing.
-    And one of three bytes whose line was worked out by hand."""
+    """xxx1 to xxx4, each with those lengths of a list up to 70,000 that it can have; the texts have
+    all bytes in turn. A special moves nothing. And one of three bytes whose line was worked out by
+    hand."""
     lengths = {
         1: (0, 1, 255),
         2: (0, 1, 255, 256),
@@ -78,7 +80,8 @@ def each_special():
 
 
 def specials_in_groups():
-    """A special after movements to the right and down, in a group; one after the group, whose place is that of the push; and two on another page."""
+    """A special after movements to the right and down, in a group; one after the group, whose place
+    is that of the push; and two on another page."""
     first = [right(7), [down(3), xxx(b"a\\b", 1), right(-9), xxx(b" ", 2)], xxx(b"", 1)]
     marks = ["special 7 3 a\\5cb", "special -2 3  ", "special 7 0 "]
     second = [xxx(bytes([10, 13, 32, 126, 127, 255]), 1), xxx(b"z", 4)]
@@ -128,8 +131,9 @@ def long_specials():
 
 
 def cut_names():
-    """Definitions whose length of the name, the byte before it, is too large. In a page the longer name takes the eop, or more bytes than there are before post;
-    after post there are fewer before post_post, and a font that a page selects is then not defined there.
+    """Definitions whose length of the name, the byte before it, is too large. In a page the longer
+    name takes the eop, or more bytes than there are before post; after post there are fewer before
+    post_post, and a font that a page selects is then not defined there.
     """
     in_page = dvi_file([Page([definition(TINY_10PT)])], 0, 0)
     length = BODY + DEFINITION - 5
@@ -151,8 +155,9 @@ def cut_names():
 
 
 def definitions_behind_a_bad_instruction():
-    """An eop after post, before the definition of the one font. A page that selects the font is refused at the selection, since the definition counts as
-    missing; otherwise the eop is what is wrong."""
+    """An eop after post, before the definition of the one font. A page that selects the font is
+    refused at the selection, since the definition counts as missing; otherwise the eop is what is
+    wrong."""
     files = [
         dvi_file([Page(body, new_fonts=(TINY_10PT,))], 0, 0)
         for body in ([select(0), set_char(99)], [])
@@ -163,7 +168,8 @@ def definitions_behind_a_bad_instruction():
 
 
 def negative_pointers():
-    """-2 in the place of each pointer: of the bops, of post and of post_post. No place is below -1, which is that of no page."""
+    """-2 in the place of each pointer: of the bops, of post and of post_post. No place is below -1,
+    which is that of no page."""
     file = dvi_file([Page([]), Page([])], 0, 0)
     second = file.page_ends[0]
     places = (BOP + POINTER, second + POINTER, file.post + 1, file.post + 30)
@@ -171,8 +177,10 @@ def negative_pointers():
 
 
 def pages_that_overlap():
-    """Two bops of which the first one has the second among its counts. Each page is right alone: the first has a special of 15 bytes, whose length is the
-    second one's pointer. And two bops without a byte between, which the chain of pages allows: there the second is in the first one's page.
+    """Two bops of which the first one has the second among its counts. Each page is right alone:
+    the first has a special of 15 bytes, whose length is the second one's pointer. And two bops
+    without a byte between, which the chain of pages allows: there the second is in the first one's
+    page.
     """
     count = dvi_file([Page([b"\xf2" + number(BOP, 4) + bytes(BOP)])], 0, 0)
     second = BODY + 1 - POINTER
@@ -195,7 +203,8 @@ def pages_that_overlap():
 
 
 def greatest_font_size():
-    """A font at 2^27 - 1. TeX halves this size four times, to 2^23 - 1, and a `c` is 8/16 wide: 8 * (2^23 - 1)."""
+    """A font at 2^27 - 1. TeX halves this size four times, to 2^23 - 1, and a `c` is 8/16 wide: 8 *
+    (2^23 - 1)."""
     font = Font(0, b"tiny", (1 << 27) - 1)
     file = dvi_file([Page([select(0), set_char(99), set_char(99)], new_fonts=(font,))], 0, 0)
     too_large = Font(0, b"tiny", 1 << 27)
@@ -207,7 +216,8 @@ def greatest_font_size():
 
 
 def furthest_places():
-    """h and v of -2^31 and of 2^31 - 1, where rules are; and h of 2^31 - 1 after a glyph, which is 5pt wide, and one more."""
+    """h and v of -2^31 and of 2^31 - 1, where rules are; and h of 2^31 - 1 after a glyph, which is
+    5pt wide, and one more."""
     rule = put_rule(1, 1)
     ways = [(right, GREATEST), (right, LEAST), (down, GREATEST), (down, LEAST)]
     marks = [

@@ -1,6 +1,8 @@
-"""The scripts of examples/, each with a metric file of plain width for its fonts. The expected results follow from the script's own text: each
-command is accepted and answered once, each `ship` is a page, and the pages that are listed show the characters of its texts and its specials.
-README.md there has a line for each script, with a picture of each page. The clients of examples/session set an article: its pages show its text and their numbers."""
+"""The scripts of examples/, each with a metric file of plain width for its fonts. The expected
+results follow from the script's own text: each command is accepted and answered once, each `ship`
+is a page, and the pages that are listed show the characters of its texts and its specials.
+README.md there has a line for each script, with a picture of each page. The clients of
+examples/session set an article: its pages show its text and their numbers."""
 import glob
 import os
 import re
@@ -79,7 +81,8 @@ def check_answers(answers, found, size):
 
 
 def check_listing(listing, found):
-    """A page for each `ship`, and the glyphs of the script's characters and its specials, each in their order."""
+    """A page for each `ship`, and the glyphs of the script's characters and its specials, each in
+    their order."""
     pages = [int(it) for it in re.findall(r"^page (\d+) ", listing, re.M)]
     ships = sum(words[0] == "ship" for words in found.values())
     require(pages == [*range(1, ships + 1)], f"the pages that are listed are {pages}")
@@ -155,7 +158,8 @@ def shown_on_pages(listing):
 
 
 def client_file(program, folder, client):
-    """Runs a client of `session` on its article, and returns the file, whose pages have to show the article's text, and each its number at the end."""
+    """Runs a client of `session` on its article, and returns the file, whose pages have to show the
+    article's text, and each its number at the end."""
     text = read(f"{folder}/article.txt")
     with tempfile.TemporaryDirectory(prefix="boxglue-client-") as room:
         os.symlink(program, f"{room}/boxglue")

@@ -1,5 +1,6 @@
-"""The lines of "To begin" in docs/LIBRARY.md, run in a folder that has nothing but crates/, crates.txt and HANDLES: the program that they make runs, and prints what the
-document says. A template with a BUILD.bazel, as kit 13b has it, does no harm."""
+"""The lines of "To begin" in docs/LIBRARY.md, run in a folder that has nothing but crates/,
+crates.txt and HANDLES: the program that they make runs, and prints what the document says. A
+template with a BUILD.bazel, as kit 13b has it, does no harm."""
 import os
 import re
 import shutil

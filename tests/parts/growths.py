@@ -1,5 +1,6 @@
-"""Each growth of memory refused in turn, in runs of a built program: a small library that counts `malloc` and `realloc` is put before it by LD_PRELOAD.
-growth_kinds.py says what may come of it. It proves nothing, and shows it for these scripts alone."""
+"""Each growth of memory refused in turn, in runs of a built program: a small library that counts
+`malloc` and `realloc` is put before it by LD_PRELOAD. growth_kinds.py says what may come of it. It
+proves nothing, and shows it for these scripts alone."""
 import functools
 import os
 import tempfile
@@ -42,7 +43,8 @@ class Refusing:
     def run(self, words, text, nth):
         """A run in which the growth of this number is refused; none for 0."""
         env = {"LANG": "C.UTF-8", "LD_PRELOAD": self.library, "REFUSE_GROWTH": str(nth)}
-        # From a pipe a text comes in pieces by time and chance, and the growths would not be the same in each run.
+        # From a pipe a text comes in pieces by time and chance, and the growths would not be the
+        # same in each run.
         with tempfile.TemporaryFile() as given:
             given.write(text)
             given.seek(0)
@@ -61,7 +63,8 @@ class Refusing:
 
 
 def text_without(script, line=0):
-    """The text of a script in which the command of a line is taken out: the line is empty then, so the others keep their numbers."""
+    """The text of a script in which the command of a line is taken out: the line is empty then, so
+    the others keep their numbers."""
     return "".join(
         "\n" if at == line else f"{it}\n" for at, it in enumerate(script.lines, 1)
     ).encode()
@@ -105,7 +108,8 @@ def kinds_of(refusing, script):
 
 
 def halfway_wrong(script, kinds):
-    """Says which command that has to run out halfway did not meet more than one refused growth, or returns None."""
+    """Says which command that has to run out halfway did not meet more than one refused growth, or
+    returns None."""
     met = Counter(it.line for it in kinds)
     for line, command in HALFWAY.get(script.name, {}).items():
         if script.lines[line - 1] != command or met[line] < 2:
@@ -133,7 +137,8 @@ def reading_kind(ended, printed, nth):
 
 
 def reading_wrong(program, words, data, printed):
-    """Refuses each growth of a run of `list`, `fonts` or `paint`, and says what is wrong, or returns None."""
+    """Refuses each growth of a run of `list`, `fonts` or `paint`, and says what is wrong, or
+    returns None."""
     with tempfile.TemporaryDirectory(prefix="boxglue-growths-") as folder:
         refusing = Refusing(program, folder, {**FILES, "f.dvi": data})
         ended, count = refusing.run_whole(words, b"")
@@ -156,7 +161,8 @@ def of_reading(reading, program):
 
 
 def cases(programs, root):
-    """The scripts of tests/cases/growths: those without a font on a device in memory, and all to a file, also as sessions; and the readings of two files."""
+    """The scripts of tests/cases/growths: those without a font on a device in memory, and all to a
+    file, also as sessions; and the readings of two files."""
     calls = {
         name: functools.partial(of_script, root, name, None)
         for name in PAGES

@@ -1,6 +1,8 @@
-"""Paragraphs with hyphens: 600 paragraphs, each in four widths and at two tolerances, by bindings/python and by examples/layout/hyphens.py in a session. They have the
-lines and the demerits that tests/cases/hyphens/lines.txt has of TeX, wherever TeX decides in its first or its second pass; where TeX is there, it makes this file again.
-Ties, in which TeX takes other lines at the same demerits, are listed in hyphen_lines.py."""
+"""Paragraphs with hyphens: 600 paragraphs, each in four widths and at two tolerances, by
+bindings/python and by examples/layout/hyphens.py in a session. They have the lines and the demerits
+that tests/cases/hyphens/lines.txt has of TeX, wherever TeX decides in its first or its second pass;
+where TeX is there, it makes this file again. Ties, in which TeX takes other lines at the same
+demerits, are listed in hyphen_lines.py."""
 import os
 import re
 import sys
@@ -21,7 +23,8 @@ SPLIT = in_turn(4)
 LIMIT = 900
 ROWS = "tests/cases/hyphens/lines.txt"
 SETTINGS, DECIDED = 4800, 3248
-# The most that a paragraph of 400 words takes in Python, in milliseconds of a processor that counts in SPIN milliseconds; and how often it is tried.
+# The most that a paragraph of 400 words takes in Python, in milliseconds of a processor that counts
+# in SPIN milliseconds; and how often it is tried.
 MOST, SPIN, TRIES = 10, 1.5, 5
 
 

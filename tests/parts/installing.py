@@ -1,5 +1,6 @@
-"""The script `install`. Built programs are copied with --program; without it a stand-in for `rt` is on the path, which records its calls and the crates: nothing is proved.
-So are stand-ins for what builds without proofs and what makes the library's files; library_packages.py has the real ones."""
+"""The script `install`. Built programs are copied with --program; without it a stand-in for `rt` is
+on the path, which records its calls and the crates: nothing is proved. So are stand-ins for what
+builds without proofs and what makes the library's files; library_packages.py has the real ones."""
 import fcntl
 import os
 import re
@@ -22,7 +23,8 @@ TITLE = "install: what it puts in place, and the crates that it has proved"
 TRIES = False
 SPLIT = in_turn(4)
 LIMIT = 60
-# Each file that is put in place, the file of the repository that it is, and the list of all files, which says what is proved.
+# Each file that is put in place, the file of the repository that it is, and the list of all files,
+# which says what is proved.
 PLACES = {
     "bin/boxglue": None,
     "share/man/man1/boxglue.1": "docs/boxglue.1",
@@ -33,7 +35,8 @@ PLACES |= {
     "share/zsh/site-functions/_boxglue": "completions/_boxglue",
 }
 LIST = "share/boxglue/installed.tsv"
-# The files of the library, below the prefix; the version stands for itself, and LIBDIR for the folder of libraries.
+# The files of the library, below the prefix; the version stands for itself, and LIBDIR for the
+# folder of libraries.
 (
     SHARED,
     STATIC,
@@ -49,8 +52,10 @@ LIBRARY = {
 }
 # Answers an empty script, as boxglue does.
 ANSWERS = "#!/bin/sh\necho end: pages 0 bytes 0\n"
-# Stands in for `rt`. `all check` takes each crate of crates.txt that has no library; one in the file `bad` is refused, and one in `slow` takes long.
-# While others are proved it does not end for a crate that is refused. `run` in the folder of the program leaves the program, and `lib` the archive.
+# Stands in for `rt`. `all check` takes each crate of crates.txt that has no library; one in the
+# file `bad` is refused, and one in `slow` takes long. While others are proved it does not end for a
+# crate that is refused. `run` in the folder of the program leaves the program, and `lib` the
+# archive.
 RT = """#!/bin/sh
 echo "$* ${PWD##*/}" >> "$ROOM/calls"
 if [ "$1" = run ]; then mkdir -p out && cp "$ROOM/boxglue" out/boxglue; fi
@@ -186,7 +191,8 @@ def refused(root, words, why, before=""):
 
 
 class Site:
-    """A repository with the script, in which a stand-in for `rt` proves; and what is installed from it."""
+    """A repository with the script, in which a stand-in for `rt` proves; and what is installed from
+    it."""
 
     def __init__(self, root, room):
         self.room, self.top, self.path = room, f"{room}/top", f"{room}/bin:{os.environ['PATH']}"
@@ -221,7 +227,8 @@ class Site:
         )
 
     def started(self):
-        """Starts the script. A shell cannot trap a signal that was ignored when it began, as an interrupt is in the background jobs of a script."""
+        """Starts the script. A shell cannot trap a signal that was ignored when it began, as an
+        interrupt is in the background jobs of a script."""
         env, pipe = {
             "HOME": f"{self.room}/home",
             "PATH": self.path,
@@ -283,7 +290,8 @@ def on_site(call, root, *words):
 
 
 def proves(site):
-    """The crates of the program are proved by one call of `rt`, with a line as they end; then the program is built, and all is installed. What is proved stays so."""
+    """The crates of the program are proved by one call of `rt`, with a line as they end; then the
+    program is built, and all is installed. What is proved stays so."""
     for words in ([], ["--jobs", "3"]):
         ran = site.install(*words)
         require(ran.is_silent(), ran)
@@ -314,7 +322,8 @@ def proves(site):
 
 
 def stops_at_a_crate(site, name, before):
-    """A crate that is not proved ends it soon, with the text of `rt`; nothing is installed, and what is proved is kept."""
+    """A crate that is not proved ends it soon, with the text of `rt`; nothing is installed, and
+    what is proved is kept."""
     site.write("bad", f"{name}\n")
     began = time.monotonic()
     ran = site.install()
@@ -332,8 +341,8 @@ def stops_at_a_crate(site, name, before):
 
 
 def stops_when_told(site, number, lines):
-    """A signal ends the script and the `rt` that runs, once it has printed these lines: while a crate takes long, it prints one every ten seconds.
-    Started again, it continues."""
+    """A signal ends the script and the `rt` that runs, once it has printed these lines: while a
+    crate takes long, it prints one every ten seconds. Started again, it continues."""
     site.write("slow", "right\n")
     with site.started() as started:
         found = [started.stdout.readline() for _ in lines]
@@ -359,7 +368,8 @@ def stops_when_told(site, number, lines):
 
 
 def stops_without_a_reader(site):
-    """Where its lines can no longer be printed, it ends, and what it runs with it; what is proved is kept."""
+    """Where its lines can no longer be printed, it ends, and what it runs with it; what is proved
+    is kept."""
     site.write("slow", "right\n")
     began = time.monotonic()
     with site.started() as started:
@@ -376,7 +386,8 @@ def stops_without_a_reader(site):
 
 
 def goes_on_after_a_kill(site):
-    """What a run that was killed left in its own tree is taken. Beside another run it does not begin."""
+    """What a run that was killed left in its own tree is taken. Beside another run it does not
+    begin."""
     site.write("top/out/proved/crates/left/out/rlib/stamp", "// left\n")
     site.write("top/out/proved/crates/left/src/old.rt", "old\n")
     with open(f"{site.top}/out/proved.lock", "w", encoding="ascii") as lock:
@@ -451,7 +462,8 @@ def fits_a_control_group(_root):
 
 
 def builds_unproved(site):
-    """Without proofs nothing is proved, and the last lines say what was built and how to have the proved program."""
+    """Without proofs nothing is proved, and the last lines say what was built and how to have the
+    proved program."""
     ran = site.install("--unproved", "--prefix", "ROOM/here")
     require(
         ran.is_silent() and site.recorded() == ["unproved "],
@@ -470,7 +482,8 @@ def builds_unproved(site):
 
 
 def keeps_what_is_proved(site):
-    """What is unproved takes the place of what is proved with --replace alone, built now or given; what is proved takes any place."""
+    """What is unproved takes the place of what is proved with --replace alone, built now or given;
+    what is proved takes any place."""
     site.write("unproved", f"{ANSWERS}# {SAYS}\n")
     proved, stays, goes = (0, False, False), (1, False, True), (0, True, False)
     ways = (
@@ -494,7 +507,8 @@ def keeps_what_is_proved(site):
 
 
 def puts_the_library(site):
-    """The library is proved beside the program, and its files go below DESTDIR. A crate that both use is proved once, and an old wheel goes."""
+    """The library is proved beside the program, and its files go below DESTDIR. A crate that both
+    use is proved once, and an old wheel goes."""
     stage = f"{site.room}/stage"
     site.write("stage/usr/share/boxglue/python/boxglue-0-py3-none-any.whl", "old\n")
     ran = site.install("--library", "--prefix", "/usr", DESTDIR=stage)
@@ -518,7 +532,8 @@ def puts_the_library(site):
 
 
 def puts_the_library_elsewhere(site):
-    """With --libdir the library is in another folder below the prefix, which its files and the crates find by their places; a folder elsewhere is refused."""
+    """With --libdir the library is in another folder below the prefix, which its files and the
+    crates find by their places; a folder elsewhere is refused."""
     words, here = (
         "--program ROOM/boxglue --library ROOM/boxglue --prefix ROOM/here --libdir".split(),
         f"{site.room}/here",
@@ -558,7 +573,8 @@ def needs_no_rt(site):
 
 
 def without_rt(path, folder):
-    """A path on which there is no `rt`: links to the commands of each of its folders that has one stand in its place."""
+    """A path on which there is no `rt`: links to the commands of each of its folders that has one
+    stand in its place."""
     kept = []
     for at, place in enumerate(path.split(":")):
         if os.path.exists(f"{place}/rt"):
@@ -572,7 +588,8 @@ def without_rt(path, folder):
 
 
 def keeps_what_is_proved_of_the_library(site):
-    """Each file of a proved library, its wheel and its crates stay without --replace, even where no other is left; a proved one takes the place of any."""
+    """Each file of a proved library, its wheel and its crates stay without --replace, even where no
+    other is left; a proved one takes the place of any."""
     site.write("unproved.a", f"{SAYS}\n")
     site.write("proved.a", "proved\n")
     prefix, words = (
@@ -599,7 +616,8 @@ def keeps_what_is_proved_of_the_library(site):
 
 
 def removes(site):
-    """--uninstall removes all that was put in place and nothing else, once; a list that names a file outside is refused."""
+    """--uninstall removes all that was put in place and nothing else, once; a list that names a
+    file outside is refused."""
     site.write("here/bin/other", "kept\n")
     for more in ("", "--library ROOM/boxglue --libdir lib64", "--library ROOM/boxglue"):
         ran = site.install(*"--program ROOM/boxglue --prefix ROOM/here".split(), *more.split())

@@ -1,5 +1,6 @@
-"""Readings that do not come to an end: a small library that interrupts each `read`, and counts them, is put before a built program by LD_PRELOAD. No smaller
-limit is in between: the program makes as many calls as it may, and then cannot read. A run takes some seconds of processor."""
+"""Readings that do not come to an end: a small library that interrupts each `read`, and counts
+them, is put before a built program by LD_PRELOAD. No smaller limit is in between: the program makes
+as many calls as it may, and then cannot read. A run takes some seconds of processor."""
 import functools
 import os
 import tempfile

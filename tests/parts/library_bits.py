@@ -1,5 +1,7 @@
-"""The bitmaps of pages as bits, by the program of bindings/c, on the files of all examples and of cases of crates/rows_scripts: they are the rules of the listing that the
-tests' own reader gives, in bitmaps of whole bytes and not; or the line of a refusal. Each growth of memory is refused in turn."""
+"""The bitmaps of pages as bits, by the program of bindings/c, on the files of all examples and of
+cases of crates/rows_scripts: they are the rules of the listing that the tests' own reader gives, in
+bitmaps of whole bytes and not; or the line of a refusal. Each growth of memory is refused in
+turn."""
 import re
 import tempfile
 from functools import partial
@@ -17,7 +19,8 @@ TITLE = "the library for C: bitmaps of pages as bits"
 PROGRAM = "library"
 NEEDS_PROGRAM = True
 SPLIT = in_turn(4)
-# Pixels an inch, width and height: rows of less than a byte, of whole bytes, and of one pixel more or less; words and one pixel more.
+# Pixels an inch, width and height: rows of less than a byte, of whole bytes, and of one pixel more
+# or less; words and one pixel more.
 SHEETS = [
     (*map(int, it.split()),)
     for it in "72 1 1,72 7 9,72 8 20,100 9 40,300 64 33,300 65 120,37 131 50,1000 257 300".split(
@@ -31,7 +34,8 @@ NO_PAGE = b"5 0 0\n"
 
 
 def bits_of(rules, dpi, width, height):
-    """The bytes of a bitmap: of each row the digits in groups of eight, the last one filled up with 0. Rules are (h, v, height, width)."""
+    """The bytes of a bitmap: of each row the digits in groups of eight, the last one filled up with
+    0. Rules are (h, v, height, width)."""
     spans, size = list(covered(rules, dpi)), -(-width // 8)
     for at in range(height):
         row = painted_row([columns for lines, columns in spans if at in lines], width)

@@ -1,6 +1,7 @@
-"""The trees of boxes of the bindings. On 500 random documents what the items of the box of each page show is what the shipped page has, in Python and in Rust; in Rust the boxes that
-TeX shows have the same texts, natural sizes, badness and overhang, and the ends of the lines of a paragraph of 4,000 words are those of its marks. bindings/python/tests has the last
-two for Python."""
+"""The trees of boxes of the bindings. On 500 random documents what the items of the box of each
+page show is what the shipped page has, in Python and in Rust; in Rust the boxes that TeX shows have
+the same texts, natural sizes, badness and overhang, and the ends of the lines of a paragraph of
+4,000 words are those of its marks. bindings/python/tests has the last two for Python."""
 import itertools
 import tempfile
 from functools import partial

@@ -1,5 +1,7 @@
-"""Callers of the library for C: those of docs/LIBRARY.md, in C, Python and Rust, and of examples/library compile and give the page of one rule; the tests of the binding for
-Python pass; the client of examples/markdown makes a page, and a book; the driver of examples/library draws a page; and through the header a pointer with the size 0 may be null, in C and C++."""
+"""Callers of the library for C: those of docs/LIBRARY.md, in C, Python and Rust, and of
+examples/library compile and give the page of one rule; the tests of the binding for Python pass;
+the client of examples/markdown makes a page, and a book; the driver of examples/library draws a
+page; and through the header a pointer with the size 0 may be null, in C and C++."""
 import os
 import re
 import tempfile
@@ -38,7 +40,8 @@ LANGUAGES = {
 }
 WARNINGS = "-Wall -Wextra -Wpedantic -Wconversion -Wshadow -Wcast-qual -Wcast-align -Wundef -Werror".split()
 SYMBOLS = "run run_replies list paint fonts marks job_new job_commands job_run job_answers job_take".split()
-# The empty script is answered by "end: pages 0 bytes 0", and the empty file by "refused 20 BadDvi 0 Trailer".
+# The empty script is answered by "end: pages 0 bytes 0", and the empty file by "refused 20 BadDvi 0
+# Trailer".
 NULL_CALLS = b"""run 4 86 116: a buffer is too small: the sizes say what is needed
 run_replies 4 5 116: a buffer is too small: the sizes say what is needed
 run 4 21 0: a buffer is too small: the sizes say what is needed
@@ -61,7 +64,8 @@ WANTED = (
 
 
 def text_of(root, name):
-    """The text of a caller: the one block of docs/LIBRARY.md in a language, or a file of examples/library."""
+    """The text of a caller: the one block of docs/LIBRARY.md in a language, or a file of
+    examples/library."""
     if "." in name:
         return read(f"{root}/examples/library/{name}")
     (found,) = re.findall(
@@ -97,7 +101,8 @@ def caller_in_c(name, wanted, root, archive, folder):
 
 
 def refused_in_c(name, line, others, root, archive, folder):
-    """The same caller over a script with a bad line, and with a refused command: its status is 1, and it writes no file."""
+    """The same caller over a script with a bad line, and with a refused command: its status is 1,
+    and it writes no file."""
     text = text_of(root, name)
     for other in others:
         write(f"{folder}/caller.c", text.replace(line, other))
@@ -235,7 +240,8 @@ def driver(root, archive, folder):
 
 
 def size_of_client(most, root, _archive, _folder):
-    """The client for Markdown has at most so many lines. They were 140 of at most 150 columns before
+    """The client for Markdown has at most so many lines. They were 140 of at most 150 columns
+    before
     black wrote them in 100."""
     count = len(read(f"{root}/examples/markdown/markdown_page.py").splitlines())
     return None if count <= most else f"it has {count} lines"

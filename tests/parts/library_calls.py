@@ -1,5 +1,6 @@
-"""The library for C, called from C and from Python on all examples and on cases of crates/rows_scripts: the bytes are those of the program, or of the case file.
-A script is run at once, and on a kept job in pieces of up to as many lines as LINES says."""
+"""The library for C, called from C and from Python on all examples and on cases of
+crates/rows_scripts: the bytes are those of the program, or of the case file. A script is run at
+once, and on a kept job in pieces of up to as many lines as LINES says."""
 import json
 import re
 import subprocess
@@ -73,8 +74,8 @@ def differs(call, found, wanted):
 
 
 def calls_of(room, wanted, kinds, listings):
-    """The calls that are made, each with its words and with what it has to give. Replies that come as numbers are printed as the texts of the answers, and in Python
-    marks as a listing."""
+    """The calls that are made, each with its words and with what it has to give. Replies that come
+    as numbers are printed as the texts of the answers, and in Python marks as a listing."""
     script = wanted["run"]
     for run, job in kinds:
         yield run, [run, "script", *room.fonts], script

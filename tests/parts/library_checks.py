@@ -1,6 +1,8 @@
-"""Why DVI files are refused, in numbers, by the program of bindings/c: on each file of tests/cases/program that `list` reads, the status and the line that is made from the
-numbers are those that the case has for `list`. Names of missing fonts and numbers of refused ones come from the bytes of the files. The buffer for the name is exact,
-too small, and for the longest name; each growth of memory is refused in turn."""
+"""Why DVI files are refused, in numbers, by the program of bindings/c: on each file of
+tests/cases/program that `list` reads, the status and the line that is made from the numbers are
+those that the case has for `list`. Names of missing fonts and numbers of refused ones come from the
+bytes of the files. The buffer for the name is exact, too small, and for the longest name; each
+growth of memory is refused in turn."""
 import glob
 import os
 import tempfile
@@ -16,7 +18,8 @@ PROGRAM = "library"
 NEEDS_PROGRAM = True
 CASES = "tests/cases/program"
 ACCEPTED = b'0 0 ""\n'
-# What the first line has of each refusal that names a font, besides those of a broken rule: the number, and the name.
+# What the first line has of each refusal that names a font, besides those of a broken rule: the
+# number, and the name.
 FONTS = {
     "list_a_definition_of_another_name_before_its_selection": b'0 "uiny"',
     "list_fonts_that_are_not_given": b'0 "tiny"',
@@ -69,7 +72,8 @@ def check(name, root, archive=None):
 
 
 def numbered(name, root, archive=None):
-    """Checks the file of a case whose font has the number 7 in place of 0: in both definitions and where it is selected."""
+    """Checks the file of a case whose font has the number 7 in place of 0: in both definitions and
+    where it is selected."""
     case = f"{root}/{CASES}/{name}"
     found = printed(
         root,
@@ -88,7 +92,8 @@ def growths(name, root, archive=None):
 
 
 def cases(programs, root):
-    """The cases of tests/cases/program that list a file, files with another number of a font, and refused growths."""
+    """The cases of tests/cases/program that list a file, files with another number of a font, and
+    refused growths."""
     names = sorted(
         os.path.basename(it) for it in glob.glob(f"{root}/{CASES}/list_*") if reads_a_file(it)
     )

@@ -1,7 +1,10 @@
-"""What packages of the library say of its proofs: pip prefers the proved wheel, a wheel is made of the right library or not at all, `boxglue_proved` is
-asked at run time in each language, and Python loads no library but its own, the system's and the named one. All in fresh environments, without network.
+"""What packages of the library say of its proofs: pip prefers the proved wheel, a wheel is made of
+the right library or not at all, `boxglue_proved` is asked at run time in each language, and Python
+loads no library but its own, the system's and the named one. All in fresh environments, without
+network.
 
-Stand-ins for libraries are proved, or have another version: they have each call of the header, and only those two answers."""
+Stand-ins for libraries are proved, or have another version: they have each call of the header, and
+only those two answers."""
 import glob
 import os
 import re
@@ -55,7 +58,8 @@ def lacks_pip():
 
 
 def stand_in(root, path, is_proved, value=None):
-    """A shared object in place of the library, with this version and this answer; and with the symbol of one that is not proved."""
+    """A shared object in place of the library, with this version and this answer; and with the
+    symbol of one that is not proved."""
     answers = {
         **dict.fromkeys(calls(root), 0),
         "boxglue_version": value or number(root),
@@ -104,7 +108,8 @@ def version_in(python, room):
 
 
 def wheels_wrong(root, prefix, said, room):
-    """What pip does with a proved and an unproved wheel of one version: it prefers the proved one, whichever comes first."""
+    """What pip does with a proved and an unproved wheel of one version: it prefers the proved one,
+    whichever comes first."""
     if lacks_pip():
         return lacks_pip()
     version, folders = dotted(root), (f"{room}/proved", f"{room}/unproved")
@@ -136,7 +141,8 @@ def wheels_wrong(root, prefix, said, room):
 
 
 def wheels_in(folder):
-    """The names of the wheels in a folder, and whether each has its own version in the package and the library."""
+    """The names of the wheels in a folder, and whether each has its own version in the package and
+    the library."""
     found = {}
     for path in glob.glob(f"{folder}/*.whl"):
         with zipfile.ZipFile(path) as it:
@@ -172,7 +178,8 @@ def refused_wheel(source, words, why, room, **env):
 
 
 def backend_wrong(root, prefix, said, room):
-    """What is wrong with wheels that pip makes of the folder: they are the one of ./install, or there is a clear error."""
+    """What is wrong with wheels that pip makes of the folder: they are the one of ./install, or
+    there is a clear error."""
     if lacks_pip():
         return lacks_pip()
     (wheel,) = glob.glob(f"{prefix}/share/boxglue/python/*.whl")
@@ -220,7 +227,8 @@ def backend_wrong(root, prefix, said, room):
 
 
 def source_wrong(root, prefix, said, room):
-    """What is wrong with the source distribution: its wheel is not the one of ./install, or its tests fail over the wheel, away from the clone."""
+    """What is wrong with the source distribution: its wheel is not the one of ./install, or its
+    tests fail over the wheel, away from the clone."""
     if lacks_pip():
         return lacks_pip()
     make = "import sys; sys.dont_write_bytecode = True; sys.path.insert(0, '.'); import _backend; print(_backend.build_sdist(sys.argv[1]))"
@@ -250,7 +258,8 @@ def source_wrong(root, prefix, said, room):
 
 
 def metadata_wrong(root, prefix, said, room):
-    """What is wrong with what the wheel says of itself: as pyproject.toml, with classifiers and keywords; and README.md says what threads may do."""
+    """What is wrong with what the wheel says of itself: as pyproject.toml, with classifiers and
+    keywords; and README.md says what threads may do."""
     (wheel,) = glob.glob(f"{prefix}/share/boxglue/python/*.whl")
     with zipfile.ZipFile(wheel) as it:
         text = it.read(next(name for name in it.namelist() if name.endswith("/METADATA"))).decode()
@@ -269,7 +278,8 @@ def metadata_wrong(root, prefix, said, room):
 
 
 def said_at_run_time(root, prefix, room, words, env_of):
-    """What is wrong with what a program says of the library that it runs over: the prefix has one, with a symbol if it is not proved, and there are stand-ins."""
+    """What is wrong with what a program says of the library that it runs over: the prefix has one,
+    with a symbol if it is not proved, and there are stand-ins."""
     is_proved = b"boxglue_unproved" not in content(f"{prefix}/lib/libboxglue.so.1")
     stand_ins = {stand_in(root, f"{room}/{it}/libboxglue.so.1", it): it for it in (True, False)}
     libraries = {f"{prefix}/lib/libboxglue.so.1": is_proved, **stand_ins}
@@ -317,7 +327,8 @@ def asked_in_python(root, prefix, said, room):
 
 
 def loader_wrong(root, prefix, said, room):
-    """What is wrong with the library that Python loads: that of its package, then the system's, and never one that lies where a clone has it."""
+    """What is wrong with the library that Python loads: that of its package, then the system's, and
+    never one that lies where a clone has it."""
     left_out = shutil.ignore_patterns("__pycache__", "*.so")
     package = shutil.copytree(
         f"{root}/bindings/python/boxglue", f"{room}/a/b/c/boxglue", ignore=left_out

@@ -1,8 +1,12 @@
-"""The library for C where memory is refused, and where its inputs are no good ones, by the program of bindings/c.
-Each growth of a call is refused in turn: the buffers are as they were at status 2, a refused command is in the answers at 7, the device failed at 1, and all that
-was taken is freed. Random bytes as scripts, DVI files and metric files give a status.
-On a kept job the same: a call with status 2 is made again and the rest is as without it, at 10 answers alone are lost, and all is freed with the job. Random pieces
-give what one run of those gives that are not bad. Jobs are freed after each line of a script, and no block of one is left: a heap that counts says so."""
+"""The library for C where memory is refused, and where its inputs are no good ones, by the program
+of bindings/c.
+Each growth of a call is refused in turn: the buffers are as they were at status 2, a refused
+command is in the answers at 7, the device failed at 1, and all that was taken is freed. Random
+bytes as scripts, DVI files and metric files give a status.
+On a kept job the same: a call with status 2 is made again and the rest is as without it, at 10
+answers alone are lost, and all is freed with the job. Random pieces give what one run of those
+gives that are not bad. Jobs are freed after each line of a script, and no block of one is left: a
+heap that counts says so."""
 import re
 import tempfile
 from functools import partial
@@ -59,7 +63,8 @@ def outputs_of(printed):
 
 
 def write_dvi(root, archive, room):
-    """Runs the script of a folder, and writes its DVI file as out.dvi. Returns whether there is one."""
+    """Runs the script of a folder, and writes its DVI file as out.dvi. Returns whether there is
+    one."""
     dvi = outputs_of(run_calls(root, archive, room, ["run", "script", *room.fonts]))[1]
     room.write("out.dvi", dvi)
     return bool(dvi)
@@ -160,7 +165,8 @@ def outcome(call, root, programs):
 
 
 def cases(programs, root):
-    """The scripts whose growths are refused, at once and in pieces, and whose jobs are freed; random bytes; random pieces; and handles."""
+    """The scripts whose growths are refused, at once and in pieces, and whose jobs are freed;
+    random bytes; random pieces; and handles."""
     calls = {
         name: partial(lambda name, *words: growths_wrong(*words, name), name) for name in SCRIPTS
     }

@@ -1,5 +1,7 @@
-"""The box in a register as structs, by the program of bindings/c: on the first page of each input and of random documents, the glyphs, rules and specials that the items
-show are those of the listing of the page. Places beyond 2^63 are those of exact fractions. The buffers are exact and too small; no call takes memory."""
+"""The box in a register as structs, by the program of bindings/c: on the first page of each input
+and of random documents, the glyphs, rules and specials that the items show are those of the listing
+of the page. Places beyond 2^63 are those of exact fractions. The buffers are exact and too small;
+no call takes memory."""
 import re
 import sys
 import tempfile
@@ -21,7 +23,8 @@ DOCUMENTS, GROUPS, LEAST = 500, 10, 20
 PT = 65536
 SHIPPED = re.compile(rb"^(\d+): shipped 1$", re.M)
 MARK = re.compile(rb"^(glyph \d+ \d+ |rule |special )(-?\d+) (-?\d+)", re.M)
-# A list of two amounts of glue that balance, but for one scaled point: its glue stretches by the size of the box for each scaled point of stretch.
+# A list of two amounts of glue that balance, but for one scaled point: its glue stretches by the
+# size of the box for each scaled point of stretch.
 SIZE, COUNT, AMOUNT = 1000 * PT, 3000, 16383 * PT
 STRETCHES = [AMOUNT] * COUNT + [1] + [-AMOUNT] * COUNT
 
@@ -32,13 +35,15 @@ def first_page(listing):
 
 
 def moved_down(shown, height):
-    """Marks that a box shows from its reference point, on a page where this is below the top by the height of the box."""
+    """Marks that a box shows from its reference point, on a page where this is below the top by the
+    height of the box."""
     return MARK.sub(lambda it: b"%s%s %d" % (it[1], it[2], int(it[3]) + height), shown)
 
 
 def items_wrong(root, archive, given, compared=None):
-    """What is wrong with the items of the box of the first page of an input. Pages that are shipped while a list is open, or elsewhere than at the origin, are passed
-    over; `compared` counts the others."""
+    """What is wrong with the items of the box of the first page of an input. Pages that are shipped
+    while a list is open, or elsewhere than at the origin, are passed over; `compared` counts the
+    others."""
     with tempfile.TemporaryDirectory(prefix="boxglue-library-") as path:
         room = Room(path, given)
         run = partial(run_calls, root, archive, room)

@@ -1,5 +1,7 @@
-"""The library for C on large inputs, and on DVI files that its call for fonts accepts or refuses, called from C and from Python.
-Inputs and answers are made by arithmetic from docs/COMMANDS.md and docs/FORMATS.md, never by the program."""
+"""The library for C on large inputs, and on DVI files that its call for fonts accepts or refuses,
+called from C and from Python.
+Inputs and answers are made by arithmetic from docs/COMMANDS.md and docs/FORMATS.md, never by the
+program."""
 import tempfile
 from dataclasses import dataclass, field
 from functools import partial
@@ -21,14 +23,16 @@ FIRST, SECOND = Font(0, b"tiny"), Font(1, b"tiny", 20 * PT, 5 * PT, -0x01234568)
 
 @dataclass(frozen=True)
 class Calls:
-    """Files, and calls on them: the words of each, and what it prints: `Printed`, or for the fonts or marks of a file the status and the lines."""
+    """Files, and calls on them: the words of each, and what it prints: `Printed`, or for the fonts
+    or marks of a file the status and the lines."""
 
     files: dict
     calls: list = field(default_factory=list)
 
 
 def calls_of_run(run):
-    """The calls for a run of the program: a script as a whole, and on a job in pieces and in one piece; or a listing."""
+    """The calls for a run of the program: a script as a whole, and on a job in pieces and in one
+    piece; or a listing."""
     text, status = b"".join(run.stdout), run.status
     if run.words[:1] == ("list",):
         yield [*run.words], Printed(status, text)
@@ -67,7 +71,8 @@ def all_slots():
 
 
 def definitions_of_another_program():
-    """1,000 definitions in less than 64 KiB, with numbers from 100 on; of each third font the name has another length, and of the last one no byte."""
+    """1,000 definitions in less than 64 KiB, with numbers from 100 on; of each third font the name
+    has another length, and of the last one no byte."""
     names = [b"n%d" % at * (1 + at % 3) for at in range(999)] + [b""]
     fonts = [Font(100 + at, name, 1 + at) for at, name in enumerate(names)]
     file = dvi_file([Page([put_rule(1, 1)], new_fonts=tuple(fonts))], 0, 0)
@@ -82,7 +87,8 @@ def definitions_of_another_program():
 
 
 def three_hundred_fonts():
-    """300 fonts are handed in, of which 299 have no bytes: the script uses the last one, and so does its file. A font after 300 of other names is found too."""
+    """300 fonts are handed in, of which 299 have no bytes: the script uses the last one, and so
+    does its file. A font after 300 of other names is found too."""
     words = [*(f"n{at}=none.tfm" for at in range(299)), "n299=tiny.tfm"]
     lines = ["font 7 n299", "use 7", "hbox into 0", "text c", "end", "ship 0"]
     file = dvi_file(
@@ -133,7 +139,8 @@ def changed(data, at, bytes_there):
 
 
 def files_that_are_refused():
-    """A file for each rule that the call tests: of the end, of the chain of pages, of the preamble, and of the definitions after post. With its place and cause."""
+    """A file for each rule that the call tests: of the end, of the chain of pages, of the preamble,
+    and of the definitions after post. With its place and cause."""
     data, file, end = two_pages()
     post, first_bop, second_bop = file.post, file.data.index(BOP), file.page_ends[0]
     defined = post + POST_SIZE
@@ -224,7 +231,8 @@ def broken_pages():
 
 
 def files_with_broken_pages():
-    """Each of them, and the whole file, has its fonts: the call does not read the pages. A listing refuses all but the whole file."""
+    """Each of them, and the whole file, has its fonts: the call does not read the pages. A listing
+    refuses all but the whole file."""
     whole, found = two_pages()[0], broken_pages()
     files = {
         "whole.dvi": whole,
@@ -244,7 +252,8 @@ def files_with_broken_pages():
 
 
 def large_files():
-    """A page of 8,000 rules, whose file is above 64 KiB, and its marks; and those of the file of a page of 80,000 rules. A check accepts both files."""
+    """A page of 8,000 rules, whose file is above 64 KiB, and its marks; and those of the file of a
+    page of 80,000 rules. A check accepts both files."""
     calls = calls_of_work(large_inputs.page_of_rules)
     typeset, listing, _ = large_inputs.page_of_instructions().runs
     marks = [
@@ -266,7 +275,8 @@ def fonts_of_large_file():
 
 
 def large_broken_files():
-    """A file whose last rule is no instruction, and one with a bad definition of a font after post: both places are above 65,536."""
+    """A file whose last rule is no instruction, and one with a bad definition of a font after post:
+    both places are above 65,536."""
     file = large_inputs.rules_and_fonts()
     last_rule = file.page_ends[0] - 1 - len(put_rule(PT, PT))
     assert last_rule > 1 << 16 and file.data[last_rule:-1].startswith(put_rule(PT, PT) + EOP)
@@ -292,7 +302,8 @@ def large_broken_files():
 
 
 def many_replies():
-    """66,000 replies, the last of them a refusal, by one call and by a job's. From C they are texts, and from Python numbers of which texts are made."""
+    """66,000 replies, the last of them a refusal, by one call and by a job's. From C they are
+    texts, and from Python numbers of which texts are made."""
     count = 66_000
     text = large_inputs.answers(["ok"] * (count - 1) + ["refused 21 VoidBox"], "pages 0 bytes 0")
     calls = [(words, Printed(1, text)) for words in (["run", "script"], ["job", "0", "script"])]
@@ -315,8 +326,9 @@ CASES = {
 
 
 def status_and_lines(ran):
-    """The status and the lines that a call for fonts or marks printed. From C the first line also has the number of the fonts and the size of their names or of the
-    refusal; or the units of the file."""
+    """The status and the lines that a call for fonts or marks printed. From C the first line also
+    has the number of the fonts and the size of their names or of the refusal; or the units of the
+    file."""
     line, _, rest = ran.stdout.partition(b"\n")
     return (
         f"the status is {ran.returncode}: {last_lines(ran.stderr)}"

@@ -1,6 +1,7 @@
-"""The marks of DVI files as structs, by the program of bindings/c, on the files of all examples and of cases of crates/rows_scripts: they are those of the program's
-listing, each glyph has the width that its metric file gives, and each text of a special stands in the file. The rooms are exact, too small, and those that always
-suffice; each growth of memory is refused in turn."""
+"""The marks of DVI files as structs, by the program of bindings/c, on the files of all examples and
+of cases of crates/rows_scripts: they are those of the program's listing, each glyph has the width
+that its metric file gives, and each text of a special stands in the file. The rooms are exact, too
+small, and those that always suffice; each growth of memory is refused in turn."""
 import re
 import tempfile
 from functools import partial

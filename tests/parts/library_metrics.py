@@ -1,6 +1,8 @@
-"""The metrics of fonts as structs, by the program of bindings/c, and by drivers in Python and Rust. Those of the metric files of examples/ and of crates/rows_scripts, of a
-large one and of changed ones, at sizes of all kinds, are those that the tests' own reader gives; those of all fonts of TeX Live are what tftopl prints. The room for
-steps is none, exact, or too small by one, and each growth of memory is refused in turn."""
+"""The metrics of fonts as structs, by the program of bindings/c, and by drivers in Python and Rust.
+Those of the metric files of examples/ and of crates/rows_scripts, of a large one and of changed
+ones, at sizes of all kinds, are those that the tests' own reader gives; those of all fonts of TeX
+Live are what tftopl prints. The room for steps is none, exact, or too small by one, and each growth
+of memory is refused in turn."""
 import glob
 import os
 import tempfile
@@ -23,7 +25,8 @@ PROGRAM = "library"
 NEEDS_PROGRAM = True
 SPLIT = in_turn(4)
 LIMIT = 60
-# The design size; the least size, and the greatest; those at which one bit more is cleared; and sizes that are none.
+# The design size; the least size, and the greatest; those at which one bit more is cleared; and
+# sizes that are none.
 SIZES = (
     0,
     1,
@@ -63,7 +66,8 @@ def calls(root, archive, room, words):
 
 
 def model(root, name, archive):
-    """Compares the metrics of a file at all sizes with those of the tests' own reader, and refuses the growths of memory."""
+    """Compares the metrics of a file at all sizes with those of the tests' own reader, and refuses
+    the growths of memory."""
     data = metric_files(root)[name]
     with tempfile.TemporaryDirectory(prefix="boxglue-library-") as path:
         room = Room(path, Input("", b""))
@@ -89,12 +93,14 @@ def in_python(root, archive, _folder):
 
 
 def in_rust(root, archive, folder):
-    """The words that run the driver in Rust, their environment, and what is wrong with the library."""
+    """The words that run the driver in Rust, their environment, and what is wrong with the
+    library."""
     return rust_words(root, archive, folder, "font_metrics.rs")
 
 
 def driven(root, driver, archive):
-    """Compares what a driver prints of all metric files of the repository, at all sizes, with the tests' own reader."""
+    """Compares what a driver prints of all metric files of the repository, at all sizes, with the
+    tests' own reader."""
     files = metric_files(root)
     with tempfile.TemporaryDirectory(prefix="boxglue-library-") as path:
         room = Room(path, Input("", b""))
@@ -119,14 +125,16 @@ def driven(root, driver, archive):
 
 
 def changed_files(data):
-    """Copies of a file with another byte at each place, in turn 0, 127, 128, 254 and 255, and beginnings of it."""
+    """Copies of a file with another byte at each place, in turn 0, 127, 128, 254 and 255, and
+    beginnings of it."""
     for place in range(len(data)):
         yield data[:place] + bytes([(0, 127, 128, 254, 255)[place % 5]]) + data[place + 1 :]
         yield data[:place]
 
 
 def changed(root, name, archive):
-    """Compares the metrics of changed copies of a file at its design size with those of the tests' own reader."""
+    """Compares the metrics of changed copies of a file at its design size with those of the tests'
+    own reader."""
     files = list(changed_files(metric_files(root)[name]))
     with tempfile.TemporaryDirectory(prefix="boxglue-library-") as path:
         room = Room(path, Input("", b""))
@@ -179,7 +187,8 @@ def printed_in_python(root, archive, size, paths):
 
 
 def batch_wrong(root, archive, room, paths):
-    """Compares the metrics of some files, at two sizes, one of them in Python, too, with what tftopl prints."""
+    """Compares the metrics of some files, at two sizes, one of them in Python, too, with what
+    tftopl prints."""
     lists = [rows_of_text(it) for it in map(printed_list, paths)]
     for size in (0, OTHER_SIZE):
         others = [printed_in_python(root, archive, size, paths)] if size else []

@@ -1,5 +1,7 @@
-"""What `./install --library` puts in place, as programs outside of the repository use it: the examples of examples/library in C, Python and Rust make the page of README.md
-by it; no installed file names the folder in which all was put together; and the libraries have the names of the header alone."""
+"""What `./install --library` puts in place, as programs outside of the repository use it: the
+examples of examples/library in C, Python and Rust make the page of README.md by it; no installed
+file names the folder in which all was put together; and the libraries have the names of the header
+alone."""
 import base64
 import csv
 import hashlib
@@ -41,7 +43,8 @@ END, SIZE = b"end: pages 1 bytes 232\n", 232
 
 
 def run(words, cwd, **env):
-    """Runs a command that has to succeed, and returns its output. Of the environment it gets what tools need, and nothing that names the repository."""
+    """Runs a command that has to succeed, and returns its output. Of the environment it gets what
+    tools need, and nothing that names the repository."""
     kept = {
         name: os.environ[name]
         for name in ("PATH", "HOME", "CARGO_HOME", "RUSTUP_HOME")
@@ -180,7 +183,8 @@ def page_in_rust(root, _prefix, said, room):
 
 
 def rust_tests(is_shared, _root, prefix, _said, room):
-    """The tests and the examples in the comments of the crates, with the archive or with the shared object."""
+    """The tests and the examples in the comments of the crates, with the archive or with the shared
+    object."""
     need("cargo")
     shutil.copytree(f"{prefix}/share/boxglue/rust", f"{room}/rust")
     env = {"BOXGLUE_SHARED": "1", "LD_LIBRARY_PATH": f"{prefix}/lib"} if is_shared else {}
@@ -195,7 +199,8 @@ def rust_tests(is_shared, _root, prefix, _said, room):
 
 
 def names_wrong(root, prefix, _said, room):
-    """What is wrong with the names of the shared object and of the archive: those of the header, and that of an unproved library."""
+    """What is wrong with the names of the shared object and of the archive: those of the header,
+    and that of an unproved library."""
     need("nm")
     shared = run(
         ["nm", "--dynamic", "--defined-only", f"{prefix}/lib/libboxglue.so"], room
@@ -212,7 +217,8 @@ def names_wrong(root, prefix, _said, room):
 
 
 def wheel_wrong(root, prefix, said, room):
-    """What is wrong with the wheel: another run gives other bytes, or its record is not that of its files."""
+    """What is wrong with the wheel: another run gives other bytes, or its record is not that of its
+    files."""
     wheel = re.search(r"^for Python: pip install (\S+)$", said, re.M)[1]
     made = (
         run([sys.executable, f"{root}/bindings/wheel", f"{prefix}/lib/libboxglue.so", room], room)

@@ -1,5 +1,6 @@
-"""What C, CMake and Rust find of `./install --library`, wherever it is: in another folder for libraries, moved, below a system root, without `rt`; how the
-shared object is linked; and the header in strict C89."""
+"""What C, CMake and Rust find of `./install --library`, wherever it is: in another folder for
+libraries, moved, below a system root, without `rt`; how the shared object is linked; and the header
+in strict C89."""
 import glob
 import os
 import shutil
@@ -28,7 +29,8 @@ add_executable(page_static page.c)
 target_link_libraries(page_static boxglue::boxglue_static)
 """
 C89 = "#include <boxglue.h>\nint main(void) { return boxglue_version() != BOXGLUE_VERSION || boxglue_proved() > 1; }\n"
-# The tags of an ELF file's dynamic section for flags, and the bits that bind all symbols when it is loaded.
+# The tags of an ELF file's dynamic section for flags, and the bits that bind all symbols when it is
+# loaded.
 DYNAMIC, BINDS_NOW = 2, {30: 8, 0x6FFFFFFB: 1}
 
 
@@ -95,7 +97,8 @@ def configured(version, folder, room, **env):
 
 
 def page_by_cmake(root, folder, room):
-    """What is wrong with the example in C by CMake, with the shared object and with the archive, and with the versions that it asks for."""
+    """What is wrong with the example in C by CMake, with the shared object and with the archive,
+    and with the versions that it asks for."""
     need("cmake", "make")
     shutil.copy(f"{root}/examples/library/page.c", room)
     for version in ("", "1.1", "1.2.0 EXACT"):
@@ -132,14 +135,16 @@ def rust_page(root, crates, room, **env):
 
 
 def moved_in_rust(root, prefix, said, room):
-    """What is wrong with the crates where the prefix was moved: they find the archive beside them."""
+    """What is wrong with the crates where the prefix was moved: they find the archive beside
+    them."""
     return lacks("cargo") or rust_page(
         root, f"{moved(prefix, room)}/share/boxglue/rust", room, PKG_CONFIG_PATH=""
     )
 
 
 def system_root_in_rust(root, prefix, said, room):
-    """What is wrong with crates elsewhere, and two system roots in turn, in which boxglue.pc names /usr, as a distribution has it."""
+    """What is wrong with crates elsewhere, and two system roots in turn, in which boxglue.pc names
+    /usr, as a distribution has it."""
     if lacks("cargo") or lacks("pkg-config"):
         return lacks("cargo") or lacks("pkg-config")
     shutil.copytree(
@@ -172,7 +177,8 @@ def system_root_in_rust(root, prefix, said, room):
 
 
 def packaged(root, prefix, said, room):
-    """What is wrong with `cargo package`: it packs and builds both crates, with the library of the prefix and, as docs.rs does, without any."""
+    """What is wrong with `cargo package`: it packs and builds both crates, with the library of the
+    prefix and, as docs.rs does, without any."""
     need("cargo")
     crates = shutil.copytree(
         f"{root}/bindings/rust",
@@ -204,7 +210,8 @@ def packaged(root, prefix, said, room):
 
 
 def other_folder(root, archive, program, room):
-    """What is wrong with a library in another folder, by pkg-config, CMake and Rust, and with its end."""
+    """What is wrong with a library in another folder, by pkg-config, CMake and Rust, and with its
+    end."""
     prefix, libdir = (
         placed(root, archive, program, room, "--libdir", "lib/x86_64-linux-gnu"),
         "lib/x86_64-linux-gnu",
@@ -227,7 +234,8 @@ def other_folder(root, archive, program, room):
 
 
 def without_kit(root, archive, program, room):
-    """What is wrong without `rt`: an archive that needs no other file is put in place, and libboxglue_c.a, which needs the kit's heap, is refused."""
+    """What is wrong without `rt`: an archive that needs no other file is put in place, and
+    libboxglue_c.a, which needs the kit's heap, is refused."""
     run([f"{root}/bindings/build", "--static", archive, f"{room}/libboxglue.a"], room)
     path = without_rt(os.environ["PATH"], f"{room}/tools")
     try:
@@ -277,7 +285,8 @@ def bound_now(root, prefix, said, room):
 
 
 def in_c89(root, prefix, said, room):
-    """What is wrong with the header in strict C89: it is accepted with BOXGLUE_NO_INLINE alone, and says so."""
+    """What is wrong with the header in strict C89: it is accepted with BOXGLUE_NO_INLINE alone, and
+    says so."""
     write(f"{room}/calls.c", C89)
     flags = [
         *"-std=c89 -pedantic-errors -Wall -Wextra -Werror -DBOXGLUE_NO_INLINE".split(),

@@ -1,5 +1,6 @@
-"""The typed calls of the bindings: random documents have the same replies and the same file by them as by their scripts. Those of C are silent in all editions of C and C++, and refuse
-what scripts cannot have before anything is sent."""
+"""The typed calls of the bindings: random documents have the same replies and the same file by them
+as by their scripts. Those of C are silent in all editions of C and C++, and refuse what scripts
+cannot have before anything is sent."""
 import os
 import re
 import tempfile
@@ -42,7 +43,8 @@ def in_python(more, root, archive, _folder, given):
 
 
 def rust_words(root, archive, folder, source):
-    """The words that run a program over the binding for Rust, and their environment, or what is wrong with the library."""
+    """The words that run a program over the binding for Rust, and their environment, or what is
+    wrong with the library."""
     words = rust_client(
         folder, f"{root}/bindings/rust/boxglue", read(f"{root}/tests/clients/{source}")
     )
@@ -69,7 +71,8 @@ def in_c(root, archive, folder, given):
 
 
 def faults_in_c(language, root, archive, folder):
-    """What scripts cannot have, null handles and long texts, by the calls in a language, with the sanitizers of the compiler."""
+    """What scripts cannot have, null handles and long texts, by the calls in a language, with the
+    sanitizers of the compiler."""
     words, flags = language.split(), [
         *WARNINGS,
         "-fsanitize=address,undefined",
@@ -96,7 +99,8 @@ def faults_in_c(language, root, archive, folder):
 
 
 def warnings(name, root, _archive, _folder):
-    """What a compiler says of the header and of programs with all its calls, in each edition of a language."""
+    """What a compiler says of the header and of programs with all its calls, in each edition of a
+    language."""
     need(name)
     words, editions = ["-x", "c++"] if "++" in name else [], EDITIONS["++" in name]
     for edition in editions:

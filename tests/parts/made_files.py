@@ -1,4 +1,5 @@
-"""Files of the repository that a script of the repository makes: they have to equal the script's output."""
+"""Files of the repository that a script of the repository makes: they have to equal the script's
+output."""
 import sys
 from functools import partial
 

@@ -1,5 +1,7 @@
-"""The manual pages: the lines of docs/boxglue.1 for many scripts at once run 200 of them; docs/boxglue.3 is what tools/library_page.py makes of the header, and has
-each of its calls; both fit into 80 columns, and groff warns of nothing. refusals.py compares the table of refusals. doxygen makes pages of the headers without a warning."""
+"""The manual pages: the lines of docs/boxglue.1 for many scripts at once run 200 of them;
+docs/boxglue.3 is what tools/library_page.py makes of the header, and has each of its calls; both
+fit into 80 columns, and groff warns of nothing. refusals.py compares the table of refusals. doxygen
+makes pages of the headers without a warning."""
 import os
 import re
 import sys
@@ -33,7 +35,8 @@ def blocks(page, before):
 
 
 def make_room(room, program):
-    """A folder with the program, a metric file, and scripts of one rule each, each wider than the one before."""
+    """A folder with the program, a metric file, and scripts of one rule each, each wider than the
+    one before."""
     os.mkdir(f"{room}/bin")
     os.symlink(program, f"{room}/bin/boxglue")
     write(f"{room}/cmr10.tfm", metric_file())
@@ -55,7 +58,8 @@ def wrong_file(room):
 
 
 def many(programs, root, tool, before):
-    """The lines of the page with xargs, or with make and a Makefile, run all scripts. Then they run some, one of which is refused."""
+    """The lines of the page with xargs, or with make and a Makefile, run all scripts. Then they run
+    some, one of which is refused."""
     need(tool)
     page = read(f"{root}/docs/boxglue.1")
     line = blocks(page, before).removeprefix("$ ")
@@ -87,7 +91,8 @@ def many(programs, root, tool, before):
 
 
 def columns(root, name, least):
-    """Lines of a page that are longer than 80 columns if the terminal has so many, and groff's warnings."""
+    """Lines of a page that are longer than 80 columns if the terminal has so many, and groff's
+    warnings."""
     need("man")
     env = {"PATH": os.environ["PATH"], "LC_ALL": "C.UTF-8"}
     for width in WIDTHS:

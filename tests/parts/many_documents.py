@@ -1,4 +1,5 @@
-"""examples/many: a thousand documents through a pool of processes and through a Dask cluster make the files that one process makes, and those of the program."""
+"""examples/many: a thousand documents through a pool of processes and through a Dask cluster make
+the files that one process makes, and those of the program."""
 import filecmp
 import functools
 import os
@@ -97,7 +98,8 @@ def engine_wrong(programs, root, engine):
 
 
 def program_wrong(programs, root):
-    """What is wrong with documents of one process, beside the files that the program makes of their scripts; or None."""
+    """What is wrong with documents of one process, beside the files that the program makes of their
+    scripts; or None."""
     out, wrong = by_one(root, programs[0])
     if wrong:
         return wrong

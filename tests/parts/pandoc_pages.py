@@ -1,6 +1,8 @@
-"""examples/pandoc without pandoc and without TeX: two documents of pandoc's JSON, with metric files of plain width. What their pages show follows from their texts: all that is
-in the first is there, and each footnote of the second is on the page of its mark, each heading on the page that the contents give. A document of several jobs has the pages of
-one. With mypy its types are checked; with pandoc, TeX and dvipdfmx the manual page of pandoc becomes a PDF file."""
+"""examples/pandoc without pandoc and without TeX: two documents of pandoc's JSON, with metric files
+of plain width. What their pages show follows from their texts: all that is in the first is there,
+and each footnote of the second is on the page of its mark, each heading on the page that the
+contents give. A document of several jobs has the pages of one. With mypy its types are checked;
+with pandoc, TeX and dvipdfmx the manual page of pandoc becomes a PDF file."""
 import json
 import os
 import re
@@ -122,7 +124,8 @@ def kinds(room):
 
 
 def notes(room):
-    """Each footnote is on the page of its mark, and below it; each heading is on the page that the contents give, in which a link leads to it."""
+    """Each footnote is on the page of its mark, and below it; each heading is on the page that the
+    contents give, in which a link leads to it."""
     dvi, said = room.made("notes", document(room.root, "notes"))
     require(SUMMARY.search(said)[2] == "0", "lines are overfull")
     listing = room.listing(dvi)
@@ -261,7 +264,8 @@ def types(_programs, root):
 
 
 def manual(programs, root):
-    """Pandoc's own manual page, with TeX's fonts: a PDF file of more than a hundred pages, and no warning of dvipdfmx."""
+    """Pandoc's own manual page, with TeX's fonts: a PDF file of more than a hundred pages, and no
+    warning of dvipdfmx."""
     absent = [it for it in map(lacks, ("pandoc", "man", "tftopl", "dvipdfmx")) if it]
     if absent:
         return absent[0]

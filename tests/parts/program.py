@@ -1,4 +1,5 @@
-"""The cases of tests/cases/program: over built programs, or all that can run in one build by `rt try --cases`."""
+"""The cases of tests/cases/program: over built programs, or all that can run in one build by `rt
+try --cases`."""
 import functools
 import os
 

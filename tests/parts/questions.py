@@ -1,6 +1,7 @@
-"""The commands of docs/FAQ.md, run in their order in a copy of examples/: they print what the document shows, and write only the files that it names.
-Without its penalty the word sticks out as far as the document says. The limits and figures are those of the other documents; the glossary is in
-order, its entries are short, and other documents use its words."""
+"""The commands of docs/FAQ.md, run in their order in a copy of examples/: they print what the
+document shows, and write only the files that it names. Without its penalty the word sticks out as
+far as the document says. The limits and figures are those of the other documents; the glossary is
+in order, its entries are short, and other documents use its words."""
 import glob
 import os
 import re
@@ -98,7 +99,8 @@ def document(room):
 
 
 def figures(root):
-    """The limits are those of the rules, the figures of time and memory those of docs/SPEED.md, and the number of pages follows from a limit."""
+    """The limits are those of the rules, the figures of time and memory those of docs/SPEED.md, and
+    the number of pages follows from a limit."""
     text = section(read(f"{root}/docs/FAQ.md"), "How large can a document be?")
     high, most = (
         re.search(r"at most ([\d.]+pt) high", text)[1],
@@ -124,7 +126,8 @@ def figures(root):
 
 
 def glossary(root):
-    """The entries are in order, short and enough, and each word stands in a document that users read."""
+    """The entries are in order, short and enough, and each word stands in a document that users
+    read."""
     entries = re.findall(
         r"(?m)^- \*\*(.*?)\*\*: (.*)$", section(read(f"{root}/docs/FAQ.md"), "Glossary")
     )

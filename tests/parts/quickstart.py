@@ -1,9 +1,12 @@
-"""The commands of docs/QUICKSTART.md, run in their order in a fresh folder with a copy of examples/ and a fresh HOME: each succeeds and prints what the document shows, and
-the page has the text of the script in the DVI file, the SVG and the table of marks, and its width in the picture.
+"""The commands of docs/QUICKSTART.md, run in their order in a fresh folder with a copy of examples/
+and a fresh HOME: each succeeds and prints what the document shows, and the page has the text of the
+script in the DVI file, the SVG and the table of marks, and its width in the picture.
 
-Only the builds are replaced: `./install --unproved` is run as `install --program PATH`, and `./install --library --unproved` as `install --library ARCHIVE --program PATH`, over
-the archive and the first program that this part is given.
-If that program is proved, `boxglue --version` must print a proved program's line; the document shows the line of an unproved program."""
+Only the builds are replaced: `./install --unproved` is run as `install --program PATH`, and
+`./install --library --unproved` as `install --library ARCHIVE --program PATH`, over the archive and
+the first program that this part is given.
+If that program is proved, `boxglue --version` must print a proved program's line; the document
+shows the line of an unproved program."""
 import functools
 import importlib.util
 import os
@@ -82,7 +85,8 @@ def steps(text):
 
 
 def pattern(output):
-    """The pattern of an output: a line of two dots stands for any lines, and two dots inside of a line for any text."""
+    """The pattern of an output: a line of two dots stands for any lines, and two dots inside of a
+    line for any text."""
     return "".join(
         r"(?:.*\n)*" if line == ".." else ".*".join(map(re.escape, line.split(".."))) + r"\n"
         for line in output.splitlines()
@@ -161,7 +165,8 @@ def picture_size(data):
 
 
 def check_picture(it):
-    """The picture is as wide as the script's lines, and the one in the document is as large; drivers may differ by a pixel."""
+    """The picture is as wide as the script's lines, and the one in the document is as large;
+    drivers may differ by a pixel."""
     columns, rows = picture_size(it.content("out/hello.png"))
     shown_columns, shown_rows = picture_size(content(f"{it.root}/docs/quickstart.png"))
     (width,) = (
@@ -225,7 +230,8 @@ def lacks_tool(text):
 
 
 def wanted_of(output, program):
-    """The pattern of what a step has to print: a proved program has another version line than the document shows."""
+    """The pattern of what a step has to print: a proved program has another version line than the
+    document shows."""
     return pattern(
         output if SAYS.encode() in content(program) else output.replace(SAYS, f"{PROVED}..)")
     )
@@ -251,7 +257,8 @@ def outcome(root, step, exports, archive=None, program=None, *_programs):
 
 
 def form(root):
-    """Whether each fenced block is read, each build is replaced, and each check has its one step."""
+    """Whether each fenced block is read, each build is replaced, and each check has its one
+    step."""
     text = document(root)
     found = steps(text)
     fences = sum(len(it.files) + len(it.output) for it in found)
@@ -276,7 +283,8 @@ def times(root):
 
 
 def first_page(root, archive=None, program=None, *_programs):
-    """Whether README.md shows what its calls print, and begins with this document's line that builds and sets a page."""
+    """Whether README.md shows what its calls print, and begins with this document's line that
+    builds and sets a page."""
     fence = re.compile(r"(?ms)^```python\n(.*?)^```$")
     calls = fence.search(document(root, "README.md"))[1]
     answers, builds, *_ = (

@@ -1,6 +1,7 @@
-"""docs/REFUSALS.md has a heading for each refusal and each cause of the sources, and the manual page a row for each refusal with the same sentence.
-Each mistake that the page shows gives the answer that stands beside it, and what it tells to write instead is a script. Links to its headings lead
-somewhere."""
+"""docs/REFUSALS.md has a heading for each refusal and each cause of the sources, and the manual
+page a row for each refusal with the same sentence. Each mistake that the page shows gives the
+answer that stands beside it, and what it tells to write instead is a script. Links to its headings
+lead somewhere."""
 import glob
 import os
 import re
@@ -98,7 +99,8 @@ def causes_of_sources(root, name):
 
 
 def causes_of_formats(root, name):
-    """The same causes are those of docs/FORMATS.md: the first word of a row's first cell, and in a table of checks that of the second."""
+    """The same causes are those of docs/FORMATS.md: the first word of a row's first cell, and in a
+    table of checks that of the second."""
     begins, ends = IN_FORMATS[name]
     text = read(f"{root}/docs/FORMATS.md").partition(begins)[2].partition(ends)[0]
     found = re.findall(r"^\| ([A-Z]\w+) \|", text, re.M) + re.findall(
@@ -167,7 +169,8 @@ def rows(text, first):
 
 
 def spans(cell):
-    """The texts that are shown as code at the beginning of a cell: what comes after them tells more."""
+    """The texts that are shown as code at the beginning of a cell: what comes after them tells
+    more."""
     found = re.findall(r"`([^`]+)`", re.match(r"(?:`[^`]+`(?:, (?=`))?)*", cell)[0])
     for shown, meant in SHOWN.items():
         found = [it.replace(shown, meant) for it in found]
@@ -175,7 +178,8 @@ def spans(cell):
 
 
 class Folder:
-    """A folder with a script, a metric file, a DVI file that needs it, and the program on the path."""
+    """A folder with a script, a metric file, a DVI file that needs it, and the program on the
+    path."""
 
     def __init__(self, root, program, path):
         self.path = path
@@ -216,7 +220,8 @@ def over(programs, root, check):
 
 
 def shown_answers(root, folder):
-    """Each mistake of the first table has exactly the refusals and messages that are shown; one without any has the answer that is shown."""
+    """Each mistake of the first table has exactly the refusals and messages that are shown; one
+    without any has the answer that is shown."""
     found = [*rows(read(f"{root}/{PAGE}"), "you wrote \\| you see")]
     for wrote, see, _ in found:
         lines, wanted = spans(wrote), spans(see)
@@ -232,7 +237,8 @@ def shown_answers(root, folder):
 
 
 def bad_lines(root, folder):
-    """The last line of each mistake is refused for the cause of its heading, and what stands beside it is a script."""
+    """The last line of each mistake is refused for the cause of its heading, and what stands beside
+    it is a script."""
     found = 0
     for heading, body in sections(root).items():
         for wrote, right_ones in rows(body, "you wrote \\| write"):

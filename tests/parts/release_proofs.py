@@ -1,7 +1,10 @@
-"""tools/release without --unproved: it makes a release where `rt ci` says that it has nothing left to prove, and else refuses.
+"""tools/release without --unproved: it makes a release where `rt ci` says that it has nothing left
+to prove, and else refuses.
 
-A stand-in for `rt` answers, and leaves a program, so nothing is proved; but for these answers, all is as it is with the kit. The program and the archive are built without
-proofs, with another text in place of the one that says so. The library still answers boxglue_proved() by 0, so the wheel is named as unproved."""
+A stand-in for `rt` answers, and leaves a program, so nothing is proved; but for these answers, all
+is as it is with the kit. The program and the archive are built without proofs, with another text in
+place of the one that says so. The library still answers boxglue_proved() by 0, so the wheel is
+named as unproved."""
 import os
 import re
 import shutil
@@ -34,7 +37,8 @@ with tempfile.NamedTemporaryFile("wb+") as log:
     except commands.Failed as error:
         sys.exit(f"refused: {error}")
 """
-# Says that all crates are kept, and leaves the program. It proves nothing, and asks the kit only for its name and its pages.
+# Says that all crates are kept, and leaves the program. It proves nothing, and asks the kit only
+# for its name and its pages.
 RT = """#!/bin/sh
 case $1 in
   ci)
@@ -60,7 +64,8 @@ END_OF_CI = "rt: ok; handles allowed: none; done in this run: {} of the 2 proofs
 
 
 def asks_rt(text, is_silent, wanted, root):
-    """What is made of the lines of `rt ci`: it is taken, where all is kept, and refused at the first proof."""
+    """What is made of the lines of `rt ci`: it is taken, where all is kept, and refused at the
+    first proof."""
     with tempfile.TemporaryDirectory(prefix="boxglue-asked-") as room:
         write(f"{room}/rt", ANSWERS.encode())
         write(f"{room}/said", text.encode())
@@ -81,7 +86,8 @@ def asks_rt(text, is_silent, wanted, root):
 
 
 def made_clone(root, archive, program, room):
-    """A clone with an archive and its stamp, as .ci/archive leaves them, and a date of its version; and the environment with the stand-in."""
+    """A clone with an archive and its stamp, as .ci/archive leaves them, and a date of its version;
+    and the environment with the stand-in."""
     _, _, program, _, archive = build(root, archive, program)
     write(f"{room}/boxglue", content(program).replace(SAYS.encode(), STANDS_IN.encode()))
     write(f"{room}/rt", RT.encode())
@@ -104,7 +110,8 @@ def made_clone(root, archive, program, room):
 
 
 def released(root, archive=None, program=None, *_programs):
-    """The release of what the stand-in says is proved; then an archive that does not fit its stamp is refused, since the stand-in does not prove it again."""
+    """The release of what the stand-in says is proved; then an archive that does not fit its stamp
+    is refused, since the stand-in does not prove it again."""
     missing = next(filter(None, map(lacks, ("cargo", "dpkg-deb"))), None)
     if missing:
         return missing

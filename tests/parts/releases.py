@@ -1,7 +1,10 @@
-"""What tools/release makes of a build without proofs: the files are the same when they are made again in another folder, and fresh systems of Debian, without `rt` and without
-network, can use them. In each the page of README.md is made: by the program, in C, in Python and in Rust. Uninstalled again, nothing is left.
+"""What tools/release makes of a build without proofs: the files are the same when they are made
+again in another folder, and fresh systems of Debian, without `rt` and without network, can use
+them. In each the page of README.md is made: by the program, in C, in Python and in Rust.
+Uninstalled again, nothing is left.
 
-A release of what is proved differs in where its program and its archive come from, which release_proofs.py tests."""
+A release of what is proved differs in where its program and its archive come from, which
+release_proofs.py tests."""
 import functools
 import glob
 import gzip
@@ -147,7 +150,8 @@ def only(folder_of, pattern):
 
 
 def names_wrong(_root, made):
-    """The files that are there: each name says that it is not proved, and SHA256SUMS has all others."""
+    """The files that are there: each name says that it is not proved, and SHA256SUMS has all
+    others."""
     wanted, found = {it.format(**spellings(made)) for it in NAMES}, {*os.listdir(made)}
     if wanted != found:
         return f"these files are there or not there: {sorted(wanted ^ found)}"
@@ -171,7 +175,8 @@ def twice(root, archive, program, *_programs):
 
 
 def bill_wrong(root, made):
-    """What is wrong with the bill of materials: it has each library of the kit that crates.txt names for the program, the kit's name and logic, and the sums of the files."""
+    """What is wrong with the bill of materials: it has each library of the kit that crates.txt
+    names for the program, the kit's name and logic, and the sums of the files."""
     bill = json.loads(content(only(made, "*.spdx.json")))
     versions = {it["name"]: it["versionInfo"] for it in bill["packages"]}
     kit, _, logic = done(["rt", "version"], root).strip().partition(" ")
@@ -212,7 +217,8 @@ def lintian_wrong(_root, made):
 
 
 def in_system(suite, lines, expected, root, made):
-    """Runs lines in a fresh system, over the release and the examples in C, Python and Rust. They print this, and nothing of the release stays at the end."""
+    """Runs lines in a fresh system, over the release and the examples in C, Python and Rust. They
+    print this, and nothing of the release stays at the end."""
     with tempfile.TemporaryDirectory(prefix="boxglue-given-") as given:
         for it in os.listdir(made):
             shutil.copy(f"{made}/{it}", given)
@@ -234,13 +240,15 @@ def in_system(suite, lines, expected, root, made):
 
 
 def removed(install, page, uninstall):
-    """Lines that install, make the page, and uninstall; then no file is there that was not there before. dpkg's and the loader's own records change."""
+    """Lines that install, make the page, and uninstall; then no file is there that was not there
+    before. dpkg's and the loader's own records change."""
     same = "comm -3 /tmp/before /tmp/after | grep -v -E '^\\s*/(var|etc/ld.so.cache|root|run)' || true\n"
     return f"{LISTED} > /tmp/before\n{install}{page}{uninstall}{LISTED} > /tmp/after\n{same}"
 
 
 def damages(made, tarball):
-    """A tarball and the SHA256SUMS beside it, which may be missing, for each way in which these can be wrong."""
+    """A tarball and the SHA256SUMS beside it, which may be missing, for each way in which these can
+    be wrong."""
     data, sums, half = (
         content(tarball),
         content(f"{made}/SHA256SUMS"),
@@ -260,7 +268,8 @@ def damages(made, tarball):
 
 
 def damaged(root, made):
-    """A tarball that was cut or changed, a wrong sum beside it, and a changed file inside: each is refused, and nothing is written."""
+    """A tarball that was cut or changed, a wrong sum beside it, and a changed file inside: each is
+    refused, and nothing is written."""
     wrong, tarball = [], only(made, "*-linux.tar.gz")
     for name, (data, sums) in damages(made, tarball).items():
         with tempfile.TemporaryDirectory(prefix="boxglue-damaged-") as room:
@@ -318,7 +327,8 @@ def files_below(top):
 
 
 def kept(_root, made):
-    """What is proved stays without --replace, in a folder with a list and in one without; with it, the list says that the files are unproved."""
+    """What is proved stays without --replace, in a folder with a list and in one without; with it,
+    the list says that the files are unproved."""
     with tempfile.TemporaryDirectory(prefix="boxglue-kept-") as room:
         wrong = []
         for name in ("with", "without"):
@@ -343,7 +353,8 @@ def kept(_root, made):
 
 
 def both_ways(root, made):
-    """Files below DESTDIR name only the prefix, ./install --from puts the same files there, and each of the two removes what the other put."""
+    """Files below DESTDIR name only the prefix, ./install --from puts the same files there, and
+    each of the two removes what the other put."""
     with tempfile.TemporaryDirectory(prefix="boxglue-ways-") as room:
         ways = {
             "sh": lambda: placed(made, room, "--prefix", "/opt/a b", DESTDIR=f"{room}/sh"),

@@ -1,4 +1,5 @@
-"""The cases of crates/rows_scripts/stdin: all in one run of the program `rows_scripts`, built or by `rt try`, compared with its file stdout."""
+"""The cases of crates/rows_scripts/stdin: all in one run of the program `rows_scripts`, built or by
+`rt try`, compared with its file stdout."""
 import functools
 import os
 import re
@@ -29,7 +30,8 @@ def run_built(program, given):
 
 def run_tried(root, given):
     """Runs the program by `rt try`, and returns the same."""
-    # The interpreter of `rt try` cannot run it. Compiled, it takes more than the usual 60 seconds on a busy machine.
+    # The interpreter of `rt try` cannot run it. Compiled, it takes more than the usual 60 seconds
+    # on a busy machine.
     status, output, errors = rt_try(
         root, "rows_scripts", ["--steps", "1", "--seconds", str(LIMIT)], given
     )

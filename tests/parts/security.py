@@ -1,5 +1,6 @@
-"""SECURITY.md: its commands in their order, over each program, and its program in Python over the library; the script that takes most, by its bytes and its memory; the stack
-that suffices; and what `list` and `fonts` print of bytes that a terminal would obey."""
+"""SECURITY.md: its commands in their order, over each program, and its program in Python over the
+library; the script that takes most, by its bytes and its memory; the stack that suffices; and what
+`list` and `fonts` print of bytes that a terminal would obey."""
 import os
 import re
 import resource
@@ -71,7 +72,8 @@ def in_python(root, archive, *_programs):
 
 
 def limited(program, words, script, **limits):
-    """Runs the program with limits, and returns its status, its output, and the greatest memory that it had, in bytes."""
+    """Runs the program with limits, and returns its status, its output, and the greatest memory
+    that it had, in bytes."""
 
     def limit():
         for name, value in limits.items():
@@ -97,7 +99,8 @@ def limited(program, words, script, **limits):
 
 
 def most(root, _archive, *programs):
-    """The script of the document has its bytes, and takes the document's memory, give or take a tenth."""
+    """The script of the document has its bytes, and takes the document's memory, give or take a
+    tenth."""
     told = re.search(
         r"^  Our script of (\d+) bytes, which doubles a box (\d+) times by `copy`, took ([\d.]+) GB",
         document(root),

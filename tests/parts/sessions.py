@@ -1,5 +1,7 @@
-"""`boxglue session`, by pipes: lines that come one by one, in pieces and all at once; readings and writings that fail; and the scripts of other tests, which have
-here the answers and the file of `typeset`. The answers to the talk below are those of rows of crates/rows_scripts, by the numbers of its lines."""
+"""`boxglue session`, by pipes: lines that come one by one, in pieces and all at once; readings and
+writings that fail; and the scripts of other tests, which have here the answers and the file of
+`typeset`. The answers to the talk below are those of rows of crates/rows_scripts, by the numbers of
+its lines."""
 import os
 import re
 import select
@@ -111,7 +113,8 @@ class Session:
             raise Wrong("there is an answer to a line that is not whole")
 
     def ends(self, answers, status, file, errors=b""):
-        """Ends the input, unless it was given, and compares what is left of the answers, the errors, the status and the file."""
+        """Ends the input, unless it was given, and compares what is left of the answers, the
+        errors, the status and the file."""
         output, said = self.started.communicate(timeout=LIMIT)
         same("the end of the answers", output or b"", answers)
         same("standard error", said or b"", errors)
@@ -121,7 +124,8 @@ class Session:
 
 
 def one_by_one(file, program):
-    """Each line is written when the answers before it were read; the page is in the file when its `ship` is answered."""
+    """Each line is written when the answers before it were read; the page is in the file when its
+    `ship` is answered."""
     with Session(program) as it:
         for line, answer in TALK:
             it.say(line)
@@ -159,7 +163,8 @@ def byte_by_byte(file, program):
 
 
 def carriage_returns(file, program):
-    """A carriage return before a line feed is dropped, also where the one comes with another reading than the other; without a line feed it is a bad byte."""
+    """A carriage return before a line feed is dropped, also where the one comes with another
+    reading than the other; without a line feed it is a bad byte."""
     with Session(program) as it:
         for line, answer in TALK:
             it.say(line[:-1] + b"\r")
@@ -247,8 +252,9 @@ def input_that_never_waits(file, program):
 
 
 def input_that_fails(file, program):
-    """A connection that is reset after the lines were answered: that is no end of the job, whose file has its page and no more. A command that was cut off before its
-    line feed is not run, even if it would be whole."""
+    """A connection that is reset after the lines were answered: that is no end of the job, whose
+    file has its page and no more. A command that was cut off before its line feed is not run, even
+    if it would be whole."""
     with socket.create_server(("127.0.0.1", 0)) as server, socket.create_connection(
         server.getsockname()
     ) as ours:
@@ -303,7 +309,8 @@ def ended_by_a_signal(file, program):
 
 
 def runs_of(program, given):
-    """What `typeset` and `session` give for an input: the status, the answers, the errors and the file."""
+    """What `typeset` and `session` give for an input: the status, the answers, the errors and the
+    file."""
     for task in ("typeset", "session"):
         with tempfile.TemporaryDirectory(prefix="boxglue-session-") as room:
             for name, data in given.fonts.items():
@@ -314,7 +321,8 @@ def runs_of(program, given):
 
 
 def like_typeset(inputs, program):
-    """Good scripts have the answers and the file of `typeset`; in a bad one the first refusal of a line is that of `typeset`."""
+    """Good scripts have the answers and the file of `typeset`; in a bad one the first refusal of a
+    line is that of `typeset`."""
     for given in inputs:
         typeset, session = runs_of(program, given)
         if typeset[1].startswith(b"refused 2 "):

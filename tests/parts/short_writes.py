@@ -1,5 +1,6 @@
-"""Writes that take a part of what they are given: a small library that shortens each `write`, and counts them, is put before a built program by LD_PRELOAD.
-Either those to the file of the pages are shortened, or those to standard output; all bytes arrive."""
+"""Writes that take a part of what they are given: a small library that shortens each `write`, and
+counts them, is put before a built program by LD_PRELOAD. Either those to the file of the pages are
+shortened, or those to standard output; all bytes arrive."""
 import functools
 import tempfile
 from dataclasses import replace
@@ -20,7 +21,8 @@ TO_FILES, TO_OUTPUT = "0", "1"
 
 
 def runs():
-    """The runs of a page of 8,000 rules, by their tasks. A session answers as `typeset`, and makes the same file."""
+    """The runs of a page of 8,000 rules, by their tasks. A session answers as `typeset`, and makes
+    the same file."""
     found = {it.words[0] if it.words else "memory": it for it in page_of_rules().runs}
     return {**found, "session": replace(found["typeset"], words=("session", MADE))}
 
@@ -54,7 +56,8 @@ def wrong_in(task, which, program):
 
 
 def cases(programs, root):
-    """The tasks that make a file, with their writes to it shortened; and all tasks, with those to standard output."""
+    """The tasks that make a file, with their writes to it shortened; and all tasks, with those to
+    standard output."""
     words = {f"the file of {it}": (it, TO_FILES) for it in ("typeset", "session")} | {
         f"the output of {it}": (it, TO_OUTPUT) for it in runs()
     }

@@ -1,4 +1,5 @@
-"""Large inputs, and the edges of input and output. Large inputs are made when a case is run (large_inputs.py); nothing large is in the repository."""
+"""Large inputs, and the edges of input and output. Large inputs are made when a case is run
+(large_inputs.py); nothing large is in the repository."""
 from common.long_runs import done
 from common.part import in_turn
 from models import large_inputs

@@ -1,5 +1,6 @@
-"""Scripts with specials: each is typeset, its file is compared with that of the writer of the tests, and the file is listed. The expected answers follow from
-docs/COMMANDS.md and docs/FORMATS.md alone; nothing large is in the repository."""
+"""Scripts with specials: each is typeset, its file is compared with that of the writer of the
+tests, and the file is listed. The expected answers follow from docs/COMMANDS.md and docs/FORMATS.md
+alone; nothing large is in the repository."""
 from common.long_runs import Run, Work
 from models.dvi_writer import Page, down, dvi_file, right, set_rule, special
 from models.large_inputs import PT, ZERO_COUNTS, answers, listed, packed, script, sizes
@@ -26,7 +27,8 @@ def ok(*lines):
 
 
 def refused_run(rows, file, pages):
-    """A run of a script to a file, in which something is refused, from pairs of its lines and answers."""
+    """A run of a script to a file, in which something is refused, from pairs of its lines and
+    answers."""
     lines, replies = zip(*rows)
     printed = answers(replies, summary(pages, file))
     return Run(
@@ -61,7 +63,8 @@ def special_and_rule():
 
 
 def each_length():
-    """Texts of 0, 1, 255, 256, 65,534 and 65,535 bytes, with 1pt between: xxx1 up to 255 bytes, xxx4 from 256 on."""
+    """Texts of 0, 1, 255, 256, 65,534 and 65,535 bytes, with 1pt between: xxx1 up to 255 bytes,
+    xxx4 from 256 on."""
     texts = [text_of(it) for it in (0, 1, 255, 256, LONGEST - 1, LONGEST)]
     lines = [
         "hbox into 0",
@@ -91,7 +94,8 @@ FULL_BODY = [special(b"a" * LONGEST)] * 16 + [special(b"a" * 16)]
 
 
 def longest_texts():
-    """A text of 65,536 bytes is too long: after `no list is open`, and before `the list would be too long`."""
+    """A text of 65,536 bytes is too long: after `no list is open`, and before `the list would be
+    too long`."""
     too_long, fits = f"special {'a' * (LONGEST + 1)}", f"special {'a' * LONGEST}"
     rows = [
         (too_long, "refused 7 NoOpenList"),
@@ -116,8 +120,9 @@ def longest_texts():
 
 
 def most_text():
-    """1,048,576 bytes of texts are shipped, and no more: 16 texts of 65,535 bytes and one of 16. Then a text of one byte is refused, before a huge page, and its box stays;
-    an empty one is accepted."""
+    """1,048,576 bytes of texts are shipped, and no more: 16 texts of 65,535 bytes and one of 16.
+    Then a text of one byte is refused, before a huge page, and its box stays; an empty one is
+    accepted."""
     rows = [
         *FULL_PAGE,
         ("copy 0", "refused 7 NoOpenList"),
@@ -158,7 +163,8 @@ def most_text():
 
 
 def one_page_of_too_much_text():
-    """1,048,577 bytes of texts on one page are refused, and the page is shipped without the last of them."""
+    """1,048,577 bytes of texts on one page are refused, and the page is shipped without the last of
+    them."""
     rows = [
         *FULL_PAGE,
         OPEN,
@@ -180,7 +186,8 @@ def one_page_of_too_much_text():
 
 
 def most_pages_and_text():
-    """65,535 pages are shipped, of which the first has all bytes of texts: a page with one byte more is refused for the number of pages."""
+    """65,535 pages are shipped, of which the first has all bytes of texts: a page with one byte
+    more is refused for the number of pages."""
     page = [OPEN, END]
     rows = [*FULL_PAGE, ("ship 0", "shipped 1")]
     rows += [it for at in range(2, 65536) for it in (*page, ("ship 1", f"shipped {at}"))]
@@ -190,8 +197,9 @@ def most_pages_and_text():
 
 
 def most_nodes_and_text():
-    """16,777,216 nodes are shipped: a box of 17 specials, which have all bytes of texts, and 256 boxes that make up the rest. A box with a special is then too much by
-    its nodes and by its text, and is refused for its nodes."""
+    """16,777,216 nodes are shipped: a box of 17 specials, which have all bytes of texts, and 256
+    boxes that make up the rest. A box with a special is then too much by its nodes and by its text,
+    and is refused for its nodes."""
     count = 65535  # The kerns of each of the 255 full boxes. The last box has the rest.
     left = (1 << 24) - 18 - 255 * (count + 1) - 1
     full, last = [OPEN, ("unhcopy 0", f"added {count}"), END], [

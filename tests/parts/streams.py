@@ -1,4 +1,5 @@
-"""How the program is started and how it writes: the path that it is started by, the calls that write a message, and an output that does not wait."""
+"""How the program is started and how it writes: the path that it is started by, the calls that
+write a message, and an output that does not wait."""
 import os
 import select
 import shutil
@@ -37,7 +38,8 @@ PAGE = b"hbox into 0\nrule 1pt 1pt 0pt\nend\nship 0\n"
 
 
 def started_by_no_text(program):
-    """The path of the program need not be UTF-8, and is no word; a word that is not UTF-8 is refused."""
+    """The path of the program need not be UTF-8, and is no word; a word that is not UTF-8 is
+    refused."""
     with tempfile.TemporaryDirectory(prefix="boxglue-streams-") as room:
         path = room.encode() + b"/\xff\xfe boxglue"
         shutil.copy(program, path)
@@ -55,7 +57,8 @@ def started_by_no_text(program):
 
 
 def writes_of(program, words, room):
-    """The status, and the bytes of each call that wrote to standard error: a socket of this kind keeps them apart."""
+    """The status, and the bytes of each call that wrote to standard error: a socket of this kind
+    keeps them apart."""
     ours, theirs = socket.socketpair(socket.AF_UNIX, socket.SOCK_SEQPACKET)
     with ours:
         ours.settimeout(LIMIT)
@@ -92,7 +95,8 @@ def script_of_lines(count):
 
 
 def output_that_does_not_wait(program):
-    """Standard output is a pipe that is set not to wait, and is read late and slowly. All answers arrive."""
+    """Standard output is a pipe that is set not to wait, and is read late and slowly. All answers
+    arrive."""
     script, answers = script_of_lines(30_000)
     reading, writing = os.pipe()
     os.set_blocking(writing, False)

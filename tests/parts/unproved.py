@@ -1,5 +1,6 @@
-"""The program and the library for C as tools/unproved.py builds them, without proofs and with run-time checks: both say so, and the library has each call of the header.
-Parts that need a program or an archive, and are given none, run over these."""
+"""The program and the library for C as tools/unproved.py builds them, without proofs and with
+run-time checks: both say so, and the library has each call of the header. Parts that need a program
+or an archive, and are given none, run over these."""
 import re
 from functools import partial
 

@@ -1,4 +1,5 @@
-"""The bill of materials of a release, in SPDX 2.3 as JSON: boxglue, its crates, the kit's libraries that are in it, the kit, and the C library that it loads."""
+"""The bill of materials of a release, in SPDX 2.3 as JSON: boxglue, its crates, the kit's libraries
+that are in it, the kit, and the C library that it loads."""
 import hashlib
 import json
 import os
@@ -19,7 +20,8 @@ OF_C = ("c/liblibc_c.a", "c/libos_c.a")
 
 
 def package(name: str, version: str, comment: str, purpose: str = "LIBRARY") -> dict[str, object]:
-    """A package of the bill. No licence is known here: boxglue has none, and each library of the kit has its own."""
+    """A package of the bill. No licence is known here: boxglue has none, and each library of the
+    kit has its own."""
     return {
         "SPDXID": f"SPDXRef-{re.sub(r'[^A-Za-z0-9.]', '-', name)}",
         "name": name,
@@ -35,7 +37,8 @@ def package(name: str, version: str, comment: str, purpose: str = "LIBRARY") -> 
 
 
 def library_of_kit(name: str, kit_name: str) -> dict[str, object]:
-    """A library of the kit: its version is the kit's, behind that of the Rust crate that it is like."""
+    """A library of the kit: its version is the kit's, behind that of the Rust crate that it is
+    like."""
     path = f"{kit()}/rattle/{name}/README.md"
     like = LIKE.search(read(path)) if os.path.exists(path) else None
     comment = f"Rattle's library {name}" + (

@@ -1,4 +1,5 @@
-"""The program and the archive of the library that a release is of: those that `rt ci` proved, or those that are built without proofs."""
+"""The program and the archive of the library that a release is of: those that `rt ci` proved, or
+those that are built without proofs."""
 import os
 import re
 import shutil
@@ -68,7 +69,8 @@ def unproved(root: str, room: str, program: str | None, archive: str | None) -> 
 
 
 def make_tree(root: str, tree: str) -> list[str]:
-    """Makes a tree of the program, the library and what they are built of, as `rt ci` takes it, and returns the names of its crates."""
+    """Makes a tree of the program, the library and what they are built of, as `rt ci` takes it, and
+    returns the names of its crates."""
     names = [*side_by_side.uses_of(root, NAMES)]
     for name in names:
         shutil.copytree(f"{root}/crates/{name}", f"{tree}/crates/{name}", ignore=NOT_PROVED)
@@ -79,7 +81,8 @@ def make_tree(root: str, tree: str) -> list[str]:
 
 
 class Question:
-    """Asks `rt ci` whether it has nothing left to prove. It ends it where it begins a proof: there it is silent for long, or says that it has proved something."""
+    """Asks `rt ci` whether it has nothing left to prove. It ends it where it begins a proof: there
+    it is silent for long, or says that it has proved something."""
 
     def __init__(self, tree: str, names: list[str], log: IO[bytes]) -> None:
         self.tree, self.names, self.log = tree, names, log
@@ -112,7 +115,8 @@ class Question:
 
 
 def proved(root: str, room: str) -> Build:
-    """What `rt ci` has proved, where it has nothing left to prove. It gives the program itself; the archive is that of .ci/archive, which is built again if it does not fit."""
+    """What `rt ci` has proved, where it has nothing left to prove. It gives the program itself; the
+    archive is that of .ci/archive, which is built again if it does not fit."""
     tree = f"{room}/proved"
     names = make_tree(root, tree)
     say(f"asks `rt ci` for {len(names)} crates, which have to be proved")

@@ -1,4 +1,5 @@
-"""Four packages for Debian, made by dpkg-deb of what `./install` puts in place: boxglue, libboxglue1, libboxglue-dev and python3-boxglue."""
+"""Four packages for Debian, made by dpkg-deb of what `./install` puts in place: boxglue,
+libboxglue1, libboxglue-dev and python3-boxglue."""
 import gzip
 import hashlib
 import os
@@ -24,7 +25,8 @@ COPYRIGHT = f"Format: https://www.debian.org/doc/packaging-manuals/copyright-for
 
 @dataclass(frozen=True)
 class Package:
-    """A package: what it is, where each of its files is below the prefix of `./install`, its links, and its scripts."""
+    """A package: what it is, where each of its files is below the prefix of `./install`, its links,
+    and its scripts."""
 
     name: str
     section: str

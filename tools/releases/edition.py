@@ -1,4 +1,5 @@
-"""What a release is of: its version in the spelling of each kind of package, its date, and what it was built of."""
+"""What a release is of: its version in the spelling of each kind of package, its date, and what it
+was built of."""
 import os
 import re
 import subprocess
@@ -10,7 +11,8 @@ from tools.version import dotted
 
 @dataclass(frozen=True)
 class Edition:
-    """The version, whether it is proved, the commit, and the seconds since 1970 that all files have as their time."""
+    """The version, whether it is proved, the commit, and the seconds since 1970 that all files have
+    as their time."""
 
     number: str
     is_proved: bool
@@ -19,7 +21,8 @@ class Edition:
 
     @property
     def python(self) -> str:
-        """The version as Python has it, which the names of files have too. One without proofs sorts below the proved one, here and below."""
+        """The version as Python has it, which the names of files have too. One without proofs sorts
+        below the proved one, here and below."""
         return self.number + ("" if self.is_proved else ".dev0+unproved")
 
     @property

@@ -1,13 +1,17 @@
-"""Lets a program that was linked over glibc 2.34 or later start over an older one too. Its code stays as it is.
+"""Lets a program that was linked over glibc 2.34 or later start over an older one too. Its code
+stays as it is.
 
-Such a program names the function that begins it, __libc_start_main, at version 2.34. That version differs from the one of 2.2.5 in one thing: it calls the program's
-constructors itself, where the older one called a function that the program handed it. This program hands none. So the symbol gets the older version, and the table of
-constructors becomes that of those which the loader calls before all others, as each glibc does. These get the program's arguments too, and call nothing of libc."""
+Such a program names the function that begins it, __libc_start_main, at version 2.34. That version
+differs from the one of 2.2.5 in one thing: it calls the program's constructors itself, where the
+older one called a function that the program handed it. This program hands none. So the symbol gets
+the older version, and the table of constructors becomes that of those which the loader calls before
+all others, as each glibc does. These get the program's arguments too, and call nothing of libc."""
 import struct
 from dataclasses import dataclass
 
 START, NEW, OLD = b"__libc_start_main", b"GLIBC_2.34", b"GLIBC_2.2.5"
-# Kinds of entries in the dynamic section, and those of the table of constructors with what they become.
+# Kinds of entries in the dynamic section, and those of the table of constructors with what they
+# become.
 STRTAB, SYMTAB, VERSYM, VERNEED, VERNEEDNUM, NULL = 5, 6, 0x6FFFFFF0, 0x6FFFFFFE, 0x6FFFFFFF, 0
 EARLY = {25: 32, 27: 33}
 LOADED, DYNAMIC = 1, 2
@@ -46,7 +50,8 @@ class Program:
         self.dynamic = self.dynamic_entries()
 
     def dynamic_entries(self) -> dict[int, tuple[int, int]]:
-        """The entries of the dynamic section by their kinds: where each stands in the file, and its value."""
+        """The entries of the dynamic section by their kinds: where each stands in the file, and its
+        value."""
         for it in (it for it in self.segments if it.kind == DYNAMIC):
             rows = [
                 (at, *struct.unpack_from("<QQ", self.data, at))
@@ -75,7 +80,8 @@ class Program:
         return bytes(self.data[begin : self.data.index(0, begin)])
 
     def needed_versions(self) -> list[tuple[int, int, int]]:
-        """The versions that the program needs: where each stands in the file, its number in the program, and where its name is in the table."""
+        """The versions that the program needs: where each stands in the file, its number in the
+        program, and where its name is in the table."""
         found, at = [], self.place(VERNEED)
         for _ in range(self.dynamic[VERNEEDNUM][1]):
             _, count, _, first, following = struct.unpack_from("<HHIII", self.data, at)
@@ -88,7 +94,8 @@ class Program:
         return found
 
     def names_of(self, version: int) -> list[bytes]:
-        """The names of the dynamic symbols that have this version. Their table ends where that of the numbers of their versions does: before the versions."""
+        """The names of the dynamic symbols that have this version. Their table ends where that of
+        the numbers of their versions does: before the versions."""
         numbers, symbols = self.place(VERSYM), self.place(SYMTAB)
         count = (self.place(VERNEED) - numbers) // 2
         its = [

@@ -1,4 +1,5 @@
-"""The folder that becomes the tarball: what `./install` puts in place, documents, and the script that installs them."""
+"""The folder that becomes the tarball: what `./install` puts in place, documents, and the script
+that installs them."""
 import hashlib
 import os
 import re
@@ -9,7 +10,8 @@ from tools.releases.builds import Build
 from tools.releases.edition import Edition
 
 LIST, WHEELS, CRATES = "share/boxglue/installed.tsv", "share/boxglue/python", "share/boxglue/rust"
-# Files of the repository, by what they are below the folder and below share/doc/boxglue of a prefix.
+# Files of the repository, by what they are below the folder and below share/doc/boxglue of a
+# prefix.
 DOCUMENTS = [
     "README.md",
     "CHANGELOG.md",
@@ -57,7 +59,8 @@ def read(path: str) -> str:
 def staged(
     root: str, build: Build, program: str, folder: str, libdir: str
 ) -> tuple[str, dict[str, str]]:
-    """What `./install` puts in place below a prefix, in a folder; and of each file what it is: proved, unproved or a text."""
+    """What `./install` puts in place below a prefix, in a folder; and of each file what it is:
+    proved, unproved or a text."""
     words = [
         "env",
         f"DESTDIR={folder}",
@@ -86,7 +89,8 @@ def staged(
 
 
 def with_own_archive(top: str, kinds: dict[str, str], edition: Edition) -> None:
-    """Lets the crates for Rust have the archive inside and the version of the edition, so that a copy of them needs no other file."""
+    """Lets the crates for Rust have the archive inside and the version of the edition, so that a
+    copy of them needs no other file."""
     crates = f"{top}/{CRATES}"
     os.makedirs(f"{crates}/boxglue-sys/lib")
     shutil.copy(f"{top}/lib/libboxglue.a", f"{crates}/boxglue-sys/lib")
@@ -159,7 +163,8 @@ def write_sums(top: str) -> None:
 
 
 def finish(root: str, top: str, kinds: dict[str, str], report: tuple[str, str]) -> None:
-    """Adds documents, the report on the proofs, the installing script, the list of files for it, and the sums."""
+    """Adds documents, the report on the proofs, the installing script, the list of files for it,
+    and the sums."""
     name, text = report
     write(f"{top}/{name}", text)
     places = {**put_documents(root, top), name: f"share/doc/boxglue/{name}"}

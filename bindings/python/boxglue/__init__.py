@@ -30,15 +30,18 @@ The twenty calls that matter, by task:
         job.finish().check()
         open("page.dvi", "wb").write(job.take())
 
-Each command of docs/COMMANDS.md is the call of `Job` that has its name, except `font`, which is `load`, and `end`, which the end of a `with` sends. A call
-returns its reply; `Job.batch` sends many in one call. A refused command raises `Refused`, with the command and the line of the call.
-`boxglue.hyphenation` has the rules for hyphens, and documents find in `boxglue.families` the fonts of a style, in `boxglue.layout` lines, ends of pages
-and columns, and in `boxglue.pdf` links and pictures.
+Each command of docs/COMMANDS.md is the call of `Job` that has its name, except `font`, which is
+`load`, and `end`, which the end of a `with` sends. A call returns its reply; `Job.batch` sends many
+in one call. A refused command raises `Refused`, with the command and the line of the call.
+`boxglue.hyphenation` has the rules for hyphens, and documents find in `boxglue.families` the fonts
+of a style, in `boxglue.layout` lines, ends of pages and columns, and in `boxglue.pdf` links and
+pictures.
 
     ran = boxglue.run("hbox into 0\\nrule 1pt 1pt 0pt\\nend\\nship 0\\n", fonts).check()
 
-runs a script. The replies to its commands are in `ran.replies`, such as `Packed(line=3, width=65536, height=65536, depth=0, badness=0)`, and in
-`ran.answers_text` as texts. `quote` tests a text for a line of a script.
+runs a script. The replies to its commands are in `ran.replies`, such as `Packed(line=3,
+width=65536, height=65536, depth=0, badness=0)`, and in `ran.answers_text` as texts. `quote` tests a
+text for a line of a script.
 
     document = boxglue.marks(ran.dvi, fonts)
     for page in document.pages:
@@ -46,21 +49,26 @@ runs a script. The replies to its commands are in `ran.replies`, such as `Packed
     numpy.asarray(document.marks.rows)["h"]  # the whole table at once
 
 The package calls the shared object libboxglue.so, and loads the first of these:
-- the file that the variable BOXGLUE_LIBRARY names, such as the file that `bindings/build` makes in the repository;
+- the file that the variable BOXGLUE_LIBRARY names, such as the file that `bindings/build` makes in
+  the repository;
 - libboxglue.so in the folder of this package, where a wheel puts it;
 - libboxglue.so.1, which the system's loader looks for.
 `proved()` tells whether the loaded library is proved.
 
-Scripts and answers have the form of docs/FORMATS.md. Give fonts as a mapping from names to the bytes of metric files (TFM), such as a
-`FontFolder`, or as pairs of both; if several have one name, the first counts. The package hands a `str` over as UTF-8. A dimension is a whole number
-of scaled points: `pt`, `inch` and the other units make one exactly, and `points` and `scaled_points` turn one into a text and back.
+Scripts and answers have the form of docs/FORMATS.md. Give fonts as a mapping from names to the
+bytes of metric files (TFM), such as a `FontFolder`, or as pairs of both; if several have one name,
+the first counts. The package hands a `str` over as UTF-8. A dimension is a whole number of scaled
+points: `pt`, `inch` and the other units make one exactly, and `points` and `scaled_points` turn one
+into a text and back.
 
-Calls may run in several threads at once, and release the GIL while the library works; calls on one job wait for each other. Nothing relies on the
-GIL. A KeyboardInterrupt comes at the end of a call that is under way. Python loads a module of the package when you first use a name of it.
+Calls may run in several threads at once, and release the GIL while the library works; calls on one
+job wait for each other. Nothing relies on the GIL. A KeyboardInterrupt comes at the end of a call
+that is under way. Python loads a module of the package when you first use a name of it.
 """
 from __future__ import annotations
 
-TYPE_CHECKING = False  # checkers of types take it for true; typing itself would be half of the time of the import
+# Checkers of types take it for true; typing itself would be half of the time of the import.
+TYPE_CHECKING = False
 if TYPE_CHECKING:
     from . import families as families, hyphenation as hyphenation, layout as layout, pdf as pdf
     from ._batches import Batch, Handle

@@ -112,8 +112,9 @@ class Batch(
             it.ship(7)
         print(width.reply.width)
 
-    A refused command does not stop the commands after it. The end of the batch raises the first refusal, and the handles of the other commands have their
-    replies. If the refused command opened or ended a list, typed calls raise NeedsRecovery until `recover`.
+    A refused command does not stop the commands after it. The end of the batch raises the first
+    refusal, and the handles of the other commands have their replies. If the refused command opened
+    or ended a list, typed calls raise NeedsRecovery until `recover`.
 
     If an exception leaves the `with`, nothing is sent, and the job is as it was before.
     """
@@ -249,7 +250,8 @@ class Batch(
             self._state.check()
             answers = self._job._commands("".join(self._lines).encode("ascii"), self._calls)
         except BoxglueError:
-            self._cancel()  # a list is left, memory was refused, or the job is closed: nothing was run
+            # A list is left, memory was refused, or the job is closed: nothing was run.
+            self._cancel()
             raise
         except BaseException:
             self._state.is_left = True  # the commands may have been run
@@ -280,7 +282,8 @@ class Batch(
             raise BoxglueError("a batch takes commands within its `with`")
 
     def _add(self, line: str, frame: FrameType | None = None) -> Handle[Any]:
-        """Keeps a command, and where its call came from: by default the caller of the function that calls this one."""
+        """Keeps a command, and where its call came from: by default the caller of the function that
+        calls this one."""
         if self._state.is_left or not self._is_open:
             self._check()
         if frame is None:

@@ -1,4 +1,5 @@
-"""The box of a register as a tree. The library lists all its items in one call, and an object of an item is made when it is visited."""
+"""The box of a register as a tree. The library lists all its items in one call, and an object of an
+item is made when it is visited."""
 from __future__ import annotations
 
 import ctypes
@@ -41,7 +42,8 @@ class ItemKind(enum.IntEnum):
 @public
 @dataclass(frozen=True, slots=True)
 class GlyphItem:
-    """A character of a font, with its reference point at (x, y). `font` is the number of the font's slot."""
+    """A character of a font, with its reference point at (x, y). `font` is the number of the font's
+    slot."""
 
     x: int
     y: int
@@ -58,7 +60,8 @@ class GlyphItem:
 @public
 @dataclass(frozen=True, slots=True)
 class KernItem:
-    """A kern that starts at (x, y). `width` is its amount, even in a vertical list. The font put it between two characters if `is_from_font`; else a command did."""
+    """A kern that starts at (x, y). `width` is its amount, even in a vertical list. The font put it
+    between two characters if `is_from_font`; else a command did."""
 
     x: int
     y: int
@@ -72,9 +75,11 @@ class KernItem:
 @public
 @dataclass(frozen=True, slots=True)
 class GlueItem:
-    """Glue that starts at (x, y). `width` is its natural width, even in a vertical list, and `set_width` the distance to the next item.
+    """Glue that starts at (x, y). `width` is its natural width, even in a vertical list, and
+    `set_width` the distance to the next item.
 
-    If the order of a stretch or shrink is "normal", its unit is a scaled point; otherwise it is 1/65536 of a fil, fill or filll.
+    If the order of a stretch or shrink is "normal", its unit is a scaled point; otherwise it is
+    1/65536 of a fil, fill or filll.
     """
 
     x: int
@@ -108,7 +113,8 @@ class PenaltyItem:
 @public
 @dataclass(frozen=True, slots=True)
 class RuleItem:
-    """A rule, with its lower left corner at (x, y). `running` names its running sizes, such as ("height", "depth"), which come from its box."""
+    """A rule, with its lower left corner at (x, y). `running` names its running sizes, such as
+    ("height", "depth"), which come from its box."""
 
     x: int
     y: int
@@ -140,7 +146,8 @@ class SpecialItem:
 @public
 @dataclass(frozen=True, slots=True)
 class GlueSetting:
-    """How the glue of a box is set. `sign` is 1 if glue of this order stretches, -1 if it shrinks, by the ratio of its stretch or shrink; 0 if no glue does."""
+    """How the glue of a box is set. `sign` is 1 if glue of this order stretches, -1 if it shrinks,
+    by the ratio of its stretch or shrink; 0 if no glue does."""
 
     sign: Literal[-1, 0, 1]
     order: Order
@@ -149,10 +156,11 @@ class GlueSetting:
 
 @public
 class Box:
-    """A box, with its reference point at (x, y). `Job.inspect` makes one, which stays as it is when the register gets another box.
+    """A box, with its reference point at (x, y). `Job.inspect` makes one, which stays as it is when
+    the register gets another box.
 
-    Places and sizes are whole numbers of scaled points. x grows to the right and y downward, from the reference point of the box that was inspected. `str` shows the
-    box as TeX's \\showbox does.
+    Places and sizes are whole numbers of scaled points. x grows to the right and y downward, from
+    the reference point of the box that was inspected. `str` shows the box as TeX's \\showbox does.
     """
 
     __slots__ = "_table", "_at", "_row", "_items"
@@ -193,7 +201,8 @@ class Box:
 
     @property
     def shift(self) -> int:
-        """How far the box is moved: down in a horizontal list, to the right in a vertical one. It is part of the place."""
+        """How far the box is moved: down in a horizontal list, to the right in a vertical one. It
+        is part of the place."""
         return int(self._row.shift)
 
     @property
@@ -236,8 +245,9 @@ class Box:
 
     @property
     def rows(self) -> memoryview:
-        """The rows of the box and of all that is in it, in the order of `walk`, as `struct boxglue_item` of boxglue.h has them. `level` counts from the box that
-        was inspected. `numpy.asarray(box.rows)` copies nothing.
+        """The rows of the box and of all that is in it, in the order of `walk`, as `struct
+        boxglue_item` of boxglue.h has them. `level` counts from the box that was inspected.
+        `numpy.asarray(box.rows)` copies nothing.
         """
         return memoryview(
             part_of(self._table.rows, self._at, self._table.ends[self._at] - self._at)
@@ -245,12 +255,14 @@ class Box:
 
     @property
     def natural_size(self) -> int:
-        """The width that an hbox has if no glue stretches or shrinks; of a vbox, height and depth together."""
+        """The width that an hbox has if no glue stretches or shrinks; of a vbox, height and depth
+        together."""
         return self._totals().advance
 
     @property
     def badness(self) -> int:
-        """The badness of its glue: 0 to 10,000, or 1,000,000 if the box is overfull (docs/COMMANDS.md, section 4)."""
+        """The badness of its glue: 0 to 10,000, or 1,000,000 if the box is overfull
+        (docs/COMMANDS.md, section 4)."""
         totals = self._totals()
         excess = self._excess(totals)
         total, *infinite = totals.stretch if excess >= 0 else totals.shrink
@@ -260,7 +272,8 @@ class Box:
 
     @property
     def overhang(self) -> int:
-        """By how much the box is overfull, after its glue has shrunk as far as it can; 0 if it is not overfull."""
+        """By how much the box is overfull, after its glue has shrunk as far as it can; 0 if it is
+        not overfull."""
         totals = self._totals()
         excess = self._excess(totals)
         total, *infinite = totals.shrink
@@ -284,7 +297,8 @@ class Box:
     def show(self, *, depth: int | None = None, breadth: int | None = None) -> str:
         """Shows the box as TeX's \\showbox does.
 
-        Fonts are shown by their slots, as \\font0. Glue is shown without the name of a parameter, and specials whole.
+        Fonts are shown by their slots, as \\font0. Glue is shown without the name of a parameter,
+        and specials whole.
 
         Args:
             depth: How many boxes deep, as \\showboxdepth; None is all.
@@ -417,7 +431,8 @@ def _ends_of(rows: Any) -> list[int]:
 
 @dataclass(slots=True)
 class _Totals:
-    """The totals of a list: of the sizes of its items, and of the stretch and the shrink of each order."""
+    """The totals of a list: of the sizes of its items, and of the stretch and the shrink of each
+    order."""
 
     advance: int
     stretch: list[int]
@@ -434,7 +449,8 @@ class _Totals:
 
 
 def badness(amount: int, total: int) -> int:
-    """The badness of an amount of stretching or shrinking to a total that can be (docs/COMMANDS.md, section 4; TeX: The Program, section 108)."""
+    """The badness of an amount of stretching or shrinking to a total that can be (docs/COMMANDS.md,
+    section 4; TeX: The Program, section 108)."""
     if amount == 0:
         return 0
     if total <= 0:

@@ -1,4 +1,5 @@
-"""The commands of scripts as typed calls. A job runs each at once, and a batch keeps them; so what they return is a parameter of the class."""
+"""The commands of scripts as typed calls. A job runs each at once, and a batch keeps them; so what
+they return is a parameter of the class."""
 from __future__ import annotations
 
 from abc import ABC, abstractmethod
@@ -48,20 +49,25 @@ _GLUES = {*"splittopskip baselineskip lineskip parfillskip".split()}
 
 
 class Commands(ABC, Generic[OkT, AddedT, SplitT, MeasuredT, ShippedT]):
-    """The commands of docs/COMMANDS.md, section 3, as calls. A `Job` runs each at once and returns its reply; a `Batch` returns a `Handle` that has it later.
+    """The commands of docs/COMMANDS.md, section 3, as calls. A `Job` runs each at once and returns
+    its reply; a `Batch` returns a `Handle` that has it later.
 
-    Dimensions are whole numbers of scaled points, as `pt`, `inch` and the other units give them. A register is a number, or a `Register` of `register()`.
+    Dimensions are whole numbers of scaled points, as `pt`, `inch` and the other units give them. A
+    register is a number, or a `Register` of `register()`.
 
     Each call may raise these exceptions, and tests for the first four before it sends anything:
         TypeError: An argument is of another type. A float is not a dimension.
-        ValueError: A number is out of the range that scripts have for it. BadCharacter is a ValueError, for a text.
+        ValueError: A number is out of the range that scripts have for it. BadCharacter is a
+            ValueError, for a text.
         NeedsRecovery: An exception left a list open: see `recover`.
         NoJob: The job is closed.
-        Refused: The command is refused, and changes nothing. The exception has the command and the line of the call. Each call lists its own
-            refusals; all of them are refused after `finish` (JobOver).
+        Refused: The command is refused, and changes nothing. The exception has the command and the
+            line of the call. Each call lists its own refusals; all of them are refused after
+            `finish` (JobOver).
         OutOfMemory: The system refused memory, and nothing was done.
 
-    Use these calls of one job in one thread at a time: a list that one thread opens is open for all.
+    Use these calls of one job in one thread at a time: a list that one thread opens is open for
+    all.
     """
 
     _state: State
@@ -124,8 +130,8 @@ class Commands(ABC, Generic[OkT, AddedT, SplitT, MeasuredT, ShippedT]):
             The font, for `use`.
 
         Raises:
-            Refused: No file has this name (NoFont), the file is bad (BadTfm) or too large at this size (DimensionTooLarge), or the slot has a font
-                (SlotTaken).
+            Refused: No file has this name (NoFont), the file is bad (BadTfm) or too large at this
+                size (DimensionTooLarge), or the slot has a font (SlotTaken).
             BoxglueError: No slot is free.
         """
         size = None if at is None else number(at, 1, LARGEST_FONT, "the size of a font")
@@ -181,14 +187,16 @@ class Commands(ABC, Generic[OkT, AddedT, SplitT, MeasuredT, ShippedT]):
 
         Args:
             to: The width of the box.
-            spread: By how much it is wider than its contents. Without both it has its natural width.
+            spread: By how much it is wider than its contents. Without both it has its natural
+                width.
             into: The register for the box; None is the enclosing list.
 
         Returns:
             The list. After its end it has the sizes of the box.
 
         Raises:
-            Refused: 64 lists are open (TooDeep), or `into` is None and no list is open (NoOpenList).
+            Refused: 64 lists are open (TooDeep), or `into` is None and no list is open
+                (NoOpenList).
             TypeError: Both `to` and `spread` are given.
         """
         return self._box("hbox", target(to, spread, into))
@@ -204,14 +212,16 @@ class Commands(ABC, Generic[OkT, AddedT, SplitT, MeasuredT, ShippedT]):
 
         Args:
             to: The height of the box.
-            spread: By how much it is higher than its contents. Without both it has its natural height.
+            spread: By how much it is higher than its contents. Without both it has its natural
+                height.
             into: The register for the box; None is the enclosing list.
 
         Returns:
             The list. After its end it has the sizes of the box.
 
         Raises:
-            Refused: 64 lists are open (TooDeep), or `into` is None and no list is open (NoOpenList).
+            Refused: 64 lists are open (TooDeep), or `into` is None and no list is open
+                (NoOpenList).
             TypeError: Both `to` and `spread` are given.
         """
         return self._box("vbox", target(to, spread, into))
@@ -227,14 +237,16 @@ class Commands(ABC, Generic[OkT, AddedT, SplitT, MeasuredT, ShippedT]):
 
         Args:
             to: The height that the same list has as a vbox.
-            spread: By how much this height is more than the natural one. Without both the list has its natural height.
+            spread: By how much this height is more than the natural one. Without both the list has
+                its natural height.
             into: The register for the box; None is the enclosing list.
 
         Returns:
             The list. After its end it has the sizes of the box.
 
         Raises:
-            Refused: 64 lists are open (TooDeep), or `into` is None and no list is open (NoOpenList).
+            Refused: 64 lists are open (TooDeep), or `into` is None and no list is open
+                (NoOpenList).
             TypeError: Both `to` and `spread` are given.
         """
         return self._box("vtop", target(to, spread, into))
@@ -246,15 +258,17 @@ class Commands(ABC, Generic[OkT, AddedT, SplitT, MeasuredT, ShippedT]):
             The list. After its end it has the number of lines, and how well they fit.
 
         Raises:
-            Refused: No list is open (NoOpenList), the list is horizontal (WrongMode), or 64 lists are open (TooDeep).
+            Refused: No list is open (NoOpenList), the list is horizontal (WrongMode), or 64 lists
+                are open (TooDeep).
         """
         return self._paragraph()
 
     def recover(self, *lists: OpenBox | OpenParagraph) -> None:
         """Lets typed calls go on after an exception left a list open.
 
-        No call closes a list that the exception left. End those that you do not want by a script, such as `job.commands("end\\nend\\n")`, and give the others
-        here: their `with` or `end` ends them.
+        No call closes a list that the exception left. End those that you do not want by a script,
+        such as `job.commands("end\\nend\\n")`, and give the others here: their `with` or `end` ends
+        them.
 
         Args:
             lists: The lists of typed calls that are open, in any order.
@@ -273,18 +287,22 @@ class Commands(ABC, Generic[OkT, AddedT, SplitT, MeasuredT, ShippedT]):
 
         Args:
             text: The text. Without an encoding it may have only the characters 32 to 126.
-            encoding: The codes of the characters in the font, such as `OT1` and `T1`, or any mapping of yours. The call may send such a text as several
-                commands, with the font's kerns between them, and returns one reply for all.
-            missing: "count" drops characters that the font lacks, and the reply counts them. "raise" asks for the font's metrics first, and raises for such a
-                character.
+            encoding: The codes of the characters in the font, such as `OT1` and `T1`, or any
+                mapping of yours. The call may send such a text as several commands, with the font's
+                kerns between them, and returns one reply for all.
+            missing: "count" drops characters that the font lacks, and the reply counts them.
+                "raise" asks for the font's metrics first, and raises for such a character.
 
         Returns:
-            How many items were added, and how many characters are missing; in a batch, a handle that has this reply later.
+            How many items were added, and how many characters are missing; in a batch, a handle
+            that has this reply later.
 
         Raises:
-            BadCharacter: A script, the encoding or the font does not have a character. The exception has its place.
+            BadCharacter: A script, the encoding or the font does not have a character. The
+                exception has its place.
             BoxglueError: `missing` is "raise", and the metrics of the current font are not known.
-            Refused: No font is current (NoFont), no list is open (NoOpenList), the list is vertical (WrongMode) or full (ListTooLong).
+            Refused: No font is current (NoFont), no list is open (NoOpenList), the list is vertical
+                (WrongMode) or full (ListTooLong).
         """
         if encoding is None and missing == "count":
             return self._added(f"text {quote(text)}\n")
@@ -303,7 +321,8 @@ class Commands(ABC, Generic[OkT, AddedT, SplitT, MeasuredT, ShippedT]):
             The reply; in a batch, a handle that has it later.
 
         Raises:
-            Refused: No font is current (NoFont), no list is open (NoOpenList), the list is vertical (WrongMode) or full (ListTooLong).
+            Refused: No font is current (NoFont), no list is open (NoOpenList), the list is vertical
+                (WrongMode) or full (ListTooLong).
         """
         return self._added(f"char {number(code, 0, CHARACTERS - 1, 'a character')}\n")
 
@@ -369,7 +388,8 @@ class Commands(ABC, Generic[OkT, AddedT, SplitT, MeasuredT, ShippedT]):
             The reply; in a batch, a handle that has it later.
 
         Raises:
-            Refused: No list is open (NoOpenList), the list does not allow this None (WrongMode), or it is full (ListTooLong).
+            Refused: No list is open (NoOpenList), the list does not allow this None (WrongMode), or
+                it is full (ListTooLong).
         """
         if (
             type(width) is int and type(height) is int and type(depth) is int
@@ -393,14 +413,16 @@ class Commands(ABC, Generic[OkT, AddedT, SplitT, MeasuredT, ShippedT]):
 
         Raises:
             BadCharacter: A script does not have a character of the text.
-            Refused: No list is open (NoOpenList), the text has more than 65,535 bytes (TooMuchSpecial), or the list is full (ListTooLong).
+            Refused: No list is open (NoOpenList), the text has more than 65,535 bytes
+                (TooMuchSpecial), or the list is full (ListTooLong).
         """
         return self._ok(f"special {quote(text)}\n")
 
     # Boxes in registers.
 
     def register(self) -> Register:
-        """Chooses a register that no other call of this got, from 32,767 down. Give it back by its `release`, or use it in a `with`.
+        """Chooses a register that no other call of this got, from 32,767 down. Give it back by its
+        `release`, or use it in a `with`.
 
         Returns:
             The register, which is void.
@@ -423,13 +445,15 @@ class Commands(ABC, Generic[OkT, AddedT, SplitT, MeasuredT, ShippedT]):
 
         Args:
             box: The register.
-            shift: How far the box is moved: down in a horizontal list, to the right in a vertical one.
+            shift: How far the box is moved: down in a horizontal list, to the right in a vertical
+                one.
 
         Returns:
             The reply; in a batch, a handle that has it later.
 
         Raises:
-            Refused: No list is open (NoOpenList), the glue before the box does not fit (DimensionTooLarge), or the list is full (ListTooLong).
+            Refused: No list is open (NoOpenList), the glue before the box does not fit
+                (DimensionTooLarge), or the list is full (ListTooLong).
         """
         return self._added(
             f"box {register(box)}{f' shift {dimension(shift)}sp' if shift else ''}\n"
@@ -440,13 +464,15 @@ class Commands(ABC, Generic[OkT, AddedT, SplitT, MeasuredT, ShippedT]):
 
         Args:
             box: The register.
-            shift: How far the box is moved: down in a horizontal list, to the right in a vertical one.
+            shift: How far the box is moved: down in a horizontal list, to the right in a vertical
+                one.
 
         Returns:
             The reply; in a batch, a handle that has it later.
 
         Raises:
-            Refused: No list is open (NoOpenList), the glue before the box does not fit (DimensionTooLarge), or the list is full (ListTooLong).
+            Refused: No list is open (NoOpenList), the glue before the box does not fit
+                (DimensionTooLarge), or the list is full (ListTooLong).
         """
         return self._added(
             f"copy {register(box)}{f' shift {dimension(shift)}sp' if shift else ''}\n"
@@ -462,7 +488,8 @@ class Commands(ABC, Generic[OkT, AddedT, SplitT, MeasuredT, ShippedT]):
             The reply; in a batch, a handle that has it later.
 
         Raises:
-            Refused: No list is open (NoOpenList), the list is vertical (WrongMode), the box is vertical (WrongKind), or the list is full (ListTooLong).
+            Refused: No list is open (NoOpenList), the list is vertical (WrongMode), the box is
+                vertical (WrongKind), or the list is full (ListTooLong).
         """
         return self._added(f"unhbox {register(box)}\n")
 
@@ -476,7 +503,8 @@ class Commands(ABC, Generic[OkT, AddedT, SplitT, MeasuredT, ShippedT]):
             The reply; in a batch, a handle that has it later.
 
         Raises:
-            Refused: No list is open (NoOpenList), the list is vertical (WrongMode), the box is vertical (WrongKind), or the list is full (ListTooLong).
+            Refused: No list is open (NoOpenList), the list is vertical (WrongMode), the box is
+                vertical (WrongKind), or the list is full (ListTooLong).
         """
         return self._added(f"unhcopy {register(box)}\n")
 
@@ -490,7 +518,8 @@ class Commands(ABC, Generic[OkT, AddedT, SplitT, MeasuredT, ShippedT]):
             The reply; in a batch, a handle that has it later.
 
         Raises:
-            Refused: No list is open (NoOpenList), the list is horizontal (WrongMode), the box is horizontal (WrongKind), or the list is full (ListTooLong).
+            Refused: No list is open (NoOpenList), the list is horizontal (WrongMode), the box is
+                horizontal (WrongKind), or the list is full (ListTooLong).
         """
         return self._added(f"unvbox {register(box)}\n")
 
@@ -504,12 +533,14 @@ class Commands(ABC, Generic[OkT, AddedT, SplitT, MeasuredT, ShippedT]):
             The reply; in a batch, a handle that has it later.
 
         Raises:
-            Refused: No list is open (NoOpenList), the list is horizontal (WrongMode), the box is horizontal (WrongKind), or the list is full (ListTooLong).
+            Refused: No list is open (NoOpenList), the list is horizontal (WrongMode), the box is
+                horizontal (WrongKind), or the list is full (ListTooLong).
         """
         return self._added(f"unvcopy {register(box)}\n")
 
     def lastbox(self, into: SupportsIndex) -> OkT:
-        """Moves the last item of the list into a register if it is a box; otherwise makes the register void.
+        """Moves the last item of the list into a register if it is a box; otherwise makes the
+        register void.
 
         Args:
             into: The register.
@@ -534,7 +565,8 @@ class Commands(ABC, Generic[OkT, AddedT, SplitT, MeasuredT, ShippedT]):
             The reply; in a batch, a handle that has it later.
 
         Raises:
-            Refused: The box is horizontal (WrongKind), its glue shrinks infinitely (InfiniteShrink), or a size does not fit (DimensionTooLarge).
+            Refused: The box is horizontal (WrongKind), its glue shrinks infinitely
+                (InfiniteShrink), or a size does not fit (DimensionTooLarge).
         """
         return self._split(f"vsplit {register(box)} to {dimension(to)}sp into {register(into)}\n")
 
@@ -594,10 +626,14 @@ class Commands(ABC, Generic[OkT, AddedT, SplitT, MeasuredT, ShippedT]):
         """Sets parameters (docs/COMMANDS.md, section 1), and leaves those that are not given.
 
         Args:
-            boxmaxdepth, splitmaxdepth, lineskiplimit, hsize, firstsize, hoffset, voffset: Dimensions, such as pt(300).
-            splittopskip, baselineskip, lineskip, parfillskip: Glues: each a `Glue`, or scaled points for glue without stretch and shrink.
+            boxmaxdepth, splitmaxdepth, lineskiplimit, hsize, firstsize, hoffset, voffset:
+                Dimensions, such as pt(300).
+            splittopskip, baselineskip, lineskip, parfillskip: Glues: each a `Glue`, or scaled
+                points for glue without stretch and shrink.
             firstlines: A number from 0 to 32.
-            pretolerance, tolerance, linepenalty, adjdemerits, clubpenalty, widowpenalty, interlinepenalty: Numbers of at most 500,000,000, or their negatives.
+            pretolerance, tolerance, linepenalty, adjdemerits: Numbers of at most 500,000,000, or
+                their negatives.
+            clubpenalty, widowpenalty, interlinepenalty: Such numbers, too.
 
         Returns:
             A reply for each parameter that is given; in a batch, handles that have them later.
@@ -639,8 +675,9 @@ class Commands(ABC, Generic[OkT, AddedT, SplitT, MeasuredT, ShippedT]):
             The number of pages so far; in a batch, a handle that has this reply later.
 
         Raises:
-            Refused: The register is void (VoidBox), a place does not fit (HugePage), or the file would be too large (TooManyPages, TooMuchShipped,
-                TooMuchSpecial). After Device the job is over.
+            Refused: The register is void (VoidBox), a place does not fit (HugePage), or the file
+                would be too large (TooManyPages, TooMuchShipped, TooMuchSpecial). After Device the
+                job is over.
         """
         return self._shipped(f"ship {register(box)}\n")
 

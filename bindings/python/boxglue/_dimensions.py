@@ -1,4 +1,5 @@
-"""Dimensions as scripts and answers have them (docs/FORMATS.md, section 1). In Python a dimension is a whole number of scaled points (sp)."""
+"""Dimensions as scripts and answers have them (docs/FORMATS.md, section 1). In Python a dimension
+is a whole number of scaled points (sp)."""
 from __future__ import annotations
 
 import operator
@@ -41,7 +42,8 @@ def scaled_points(text: str) -> int:
         Its scaled points.
 
     Raises:
-        ValueError: The text is another one, or does not fit: its absolute value is above 1,073,741,823.
+        ValueError: The text is another one, or does not fit: its absolute value is above
+            1,073,741,823.
     """
     found = _DIMENSION.fullmatch(text)
     if not found or found[3] not in (*_UNITS, "sp"):
@@ -120,8 +122,9 @@ def _ratio(amount: Any) -> tuple[int, int]:
 
 
 def _size(amount: Amount, unit: str) -> tuple[int, bool]:
-    """The scaled points of an amount of a unit, by the steps of a text (docs/FORMATS.md): the nearest number of 65536ths of the unit, halves upward; that number in
-    points, rounded down. Whether the amount is negative stands beside them."""
+    """The scaled points of an amount of a unit, by the steps of a text (docs/FORMATS.md): the
+    nearest number of 65536ths of the unit, halves upward; that number in points, rounded down.
+    Whether the amount is negative stands beside them."""
     (top, bottom), (num, den) = _ratio(amount), _UNITS[unit]
     if isinstance(amount, float) and POINT * top % bottom:
         raise ValueError(
@@ -150,13 +153,15 @@ def pt(amount: Amount) -> int:
     The value is the one that a script reads from the same text. This holds for all calls of units.
 
     Args:
-        amount: An int, a Fraction, a Decimal or a text such as "12.5"; or a float that is a whole number of 65536ths, such as 0.5.
+        amount: An int, a Fraction, a Decimal or a text such as "12.5"; or a float that is a whole
+            number of 65536ths, such as 0.5.
 
     Returns:
         The scaled points: 65,536 for each point.
 
     Raises:
-        ValueError: The float is not exact, such as 0.1; the text is not a number; or the dimension does not fit.
+        ValueError: The float is not exact, such as 0.1; the text is not a number; or the dimension
+            does not fit.
         TypeError: The amount is none of these.
     """
     return _in_unit(amount, "pt")

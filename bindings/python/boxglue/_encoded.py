@@ -46,7 +46,8 @@ def refuse_missing(text: str, codes: Sequence[int], metrics: Metrics) -> None:
 
 
 def shaped(word: Sequence[int], metrics: Metrics | None) -> Iterator[tuple[list[int], int, int]]:
-    """The glyphs of a word (docs/FORMATS.md, section 10): of each the characters that it stands for, its code, and the kern after it."""
+    """The glyphs of a word (docs/FORMATS.md, section 10): of each the characters that it stands
+    for, its code, and the kern after it."""
     sources, code = [word[0]], word[0]
     for following in word[1:]:
         step = metrics.step(code, following) if metrics else None
@@ -80,8 +81,9 @@ def _plain(sources: Sequence[int]) -> str | None:
 def encoded(codes: Sequence[int], metrics: Metrics | None) -> list[str]:
     """The commands of a text.
 
-    What scripts can write is in `text`, which looks for the font's steps itself. Kerns on the two sides of a `char` are commands of their own, and a ligature
-    with such a character is the `char` of that.
+    What scripts can write is in `text`, which looks for the font's steps itself. Kerns on the two
+    sides of a `char` are commands of their own, and a ligature with such a character is the `char`
+    of that.
     """
     whole = _plain(codes)
     if whole is not None:

@@ -9,7 +9,8 @@ from ._public import public
 # An encoding: the code of each character that its fonts have.
 Encoding: TypeAlias = "Mapping[str, int]"
 
-# The characters that have their code of ASCII in both. TeX's fonts show an apostrophe as the right quote.
+# The characters that have their code of ASCII in both. TeX's fonts show an apostrophe as the right
+# quote.
 _ASCII = "!#$%&()*+,-./0123456789:;=?@ABCDEFGHIJKLMNOPQRSTUVWXYZ[]abcdefghijklmnopqrstuvwxyz'`"
 # Characters in the order of their codes, by the code of the first one.
 _OT1 = {
@@ -78,7 +79,8 @@ _OMS = {
 class FontEncoding(Mapping[str, int]):
     """An encoding of fonts: the code of each character of Unicode that its fonts have.
 
-    `OT1` and `T1` have the codes of TeX's text fonts. `TS1`, `OMS` and `OML` have the codes of its symbol fonts. `text` accepts every mapping, such as `{**boxglue.T1, "…": 0x85}`.
+    `OT1` and `T1` have the codes of TeX's text fonts. `TS1`, `OMS` and `OML` have the codes of its
+    symbol fonts. `text` accepts every mapping, such as `{**boxglue.T1, "…": 0x85}`.
     """
 
     __slots__ = "name", "_codes"
@@ -107,9 +109,11 @@ def _encoding(name: str, runs: Mapping[int, str], same: str = "", **more: int) -
 
 # The encoding of scripts.
 ASCII = FontEncoding("ASCII", {chr(it): it for it in range(33, 127)})
-# The encoding of TeX's own fonts, such as cmr10. It has no accented letters, and shows a double quote of ASCII as the right one.
+# The encoding of TeX's own fonts, such as cmr10. It has no accented letters, and shows a double
+# quote of ASCII as the right one.
 OT1 = _encoding("OT1", _OT1, _ASCII, **{'"': 34})
 # The Cork encoding of fonts such as ecrm1000 and ec-lmr10. The Croatian Đ is its Ð.
 T1 = _encoding("T1", _T1, _ASCII, Đ=208)
-# Three tables: symbols for texts in fonts such as ts1-lmr10, symbols in TeX's own font cmsy10, and Greek letters and signs in cmmi10.
+# Three tables: symbols for texts in fonts such as ts1-lmr10, symbols in TeX's own font cmsy10, and
+# Greek letters and signs in cmmi10.
 TS1, OMS, OML = _encoding("TS1", _TS1), _encoding("OMS", _OMS), _encoding("OML", _OML)

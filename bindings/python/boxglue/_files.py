@@ -38,7 +38,8 @@ _REFUSAL = re.compile(r"refused (\d+) (\w+)(?: (.*))?\n")
 @public
 @dataclass(frozen=True, slots=True)
 class DviFont:
-    """A font that a DVI file defines: its number, its name, its size and design size in DVI units (scaled points in boxglue's own files), and its check sum."""
+    """A font that a DVI file defines: its number, its name, its size and design size in DVI units
+    (scaled points in boxglue's own files), and its check sum."""
 
     number: int
     name: str
@@ -77,9 +78,10 @@ class Bitmap:
 class Fault:
     """Why a DVI file is refused, in numbers and names (docs/REFUSALS.md).
 
-    `name` and `number` name the refusal, such as "BadDvi" and 20. `cause` is the name of the broken rule, such as "Trailer", and `place` the number of bytes before
-    it in the file. `missing` is the name of the font that is missing. `font` is the number by which the file selects the font whose metric file is refused. Each is
-    None if the refusal does not have it.
+    `name` and `number` name the refusal, such as "BadDvi" and 20. `cause` is the name of the broken
+    rule, such as "Trailer", and `place` the number of bytes before it in the file. `missing` is the
+    name of the font that is missing. `font` is the number by which the file selects the font whose
+    metric file is refused. Each is None if the refusal does not have it.
     """
 
     name: str
@@ -99,7 +101,8 @@ def refusal_in(line: bytes) -> Refused:
 
 
 def refusal_of_file(line: bytes, words: tuple[Any, ...]) -> Refused:
-    """The refusal of a file in the line that a call with these words writes for it, with the name of a font that is missing."""
+    """The refusal of a file in the line that a call with these words writes for it, with the name
+    of a font that is missing."""
     refused = refusal_in(line)
     fault = _fault_of(words)[1] if refused.name == "NoFont" else None
     return (
@@ -120,7 +123,8 @@ def _text(
 
 
 def file_words(dvi: bytes, given: Fonts) -> tuple[Any, ...]:
-    """A DVI file and fonts as a call takes them. Of a folder those are given that the file names; where it is refused, none, as the call refuses it too."""
+    """A DVI file and fonts as a call takes them. Of a folder those are given that the file names;
+    where it is refused, none, as the call refuses it too."""
     if isinstance(given, FontFolder):
         try:
             given = given.choose(dict.fromkeys(it.name for it in fonts(dvi)))
@@ -135,13 +139,15 @@ def listing(dvi: Data, fonts: Fonts = ()) -> str:
 
     Args:
         dvi: The bytes of the file.
-        fonts: The fonts that its pages may select: a mapping from names to the bytes of metric files, a `FontFolder`, or pairs of both.
+        fonts: The fonts that its pages may select: a mapping from names to the bytes of metric
+            files, a `FontFolder`, or pairs of both.
 
     Returns:
         The text of `boxglue list` (docs/FORMATS.md, section 4).
 
     Raises:
-        Refused: The file is bad (BadDvi), a font is missing (NoFont), or its metric file is bad (BadTfm) or too large (DimensionTooLarge).
+        Refused: The file is bad (BadDvi), a font is missing (NoFont), or its metric file is bad
+            (BadTfm) or too large (DimensionTooLarge).
         OutOfMemory: The system refused memory.
         BadFontName: The name of a font does not have 1 to 255 bytes.
     """
@@ -155,7 +161,8 @@ def check(dvi: Data, fonts: Fonts = ()) -> Fault | None:
 
     Args:
         dvi: The bytes of the file.
-        fonts: The fonts that its pages may select: a mapping from names to the bytes of metric files, a `FontFolder`, or pairs of both.
+        fonts: The fonts that its pages may select: a mapping from names to the bytes of metric
+            files, a `FontFolder`, or pairs of both.
 
     Returns:
         Why the file is refused; None if it is accepted.
@@ -210,7 +217,8 @@ def paint(
 
     Args:
         dvi: The bytes of the file.
-        fonts: The fonts that its pages may select: a mapping from names to the bytes of metric files, a `FontFolder`, or pairs of both.
+        fonts: The fonts that its pages may select: a mapping from names to the bytes of metric
+            files, a `FontFolder`, or pairs of both.
         page: The page, counted from 1.
         dpi: Pixels an inch, 1 to 10,000.
         width: The width of the bitmap in pixels, 1 to 10,000.
@@ -220,7 +228,8 @@ def paint(
         The bitmap. It shows no glyphs.
 
     Raises:
-        Refused: The file is bad (BadDvi), a font is missing (NoFont), or its metric file is bad (BadTfm) or too large (DimensionTooLarge).
+        Refused: The file is bad (BadDvi), a font is missing (NoFont), or its metric file is bad
+            (BadTfm) or too large (DimensionTooLarge).
         NoSuchPage: The file is good, and does not have this page.
         OutOfRange: A number is out of its range.
         OutOfMemory: The system refused memory.
@@ -240,7 +249,8 @@ def paint(
 
 @public
 def fonts(dvi: Data) -> list[DviFont]:
-    """Reads the fonts that a DVI file defines after its pages. Their names are those that the other calls need.
+    """Reads the fonts that a DVI file defines after its pages. Their names are those that the other
+    calls need.
 
     Args:
         dvi: The bytes of the file.

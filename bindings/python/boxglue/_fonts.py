@@ -14,17 +14,21 @@ _SECONDS = 60
 
 @public
 class FontFolder(Mapping[str, bytes]):
-    """The metric files of folders, by the names of their fonts: the file of "cmr10" is cmr10.tfm in the first of the folders that has it.
+    """The metric files of folders, by the names of their fonts: the file of "cmr10" is cmr10.tfm in
+    the first of the folders that has it.
 
-        folder = boxglue.FontFolder("/usr/share/texlive/texmf-dist/fonts/tfm/public/cm", kpsewhich=True)
+        cm = "/usr/share/texlive/texmf-dist/fonts/tfm/public/cm"
+        folder = boxglue.FontFolder(cm, kpsewhich=True)
         boxglue.run(script, folder)
 
-    The folder reads a file when you ask for it, and keeps it. `run`, `listing`, `paint`, `marks` and `check` take the fonts that their script or file names.
-    A `Job` takes all fonts of the folders, so give it `folder.choose(names)`.
+    The folder reads a file when you ask for it, and keeps it. `run`, `listing`, `paint`, `marks`
+    and `check` take the fonts that their script or file names. A `Job` takes all fonts of the
+    folders, so give it `folder.choose(names)`.
 
     Args:
         folders: The folders, of which the first one that has a file counts.
-        kpsewhich: Whether TeX's program of this name, if it is on the path, looks for fonts that no folder has. `choose` runs it once for all names.
+        kpsewhich: Whether TeX's program of this name, if it is on the path, looks for fonts that no
+            folder has. `choose` runs it once for all names.
     """
 
     def __init__(self, *folders: str | os.PathLike[str], kpsewhich: bool = False) -> None:
@@ -55,7 +59,8 @@ class FontFolder(Mapping[str, bytes]):
             names: The names of the fonts.
 
         Returns:
-            The files that are there, by their names. The typesetter refuses the other fonts as NoFont.
+            The files that are there, by their names. The typesetter refuses the other fonts as
+            NoFont.
         """
         wanted = [*dict.fromkeys(names)]
         self._look_for(wanted)
@@ -70,7 +75,8 @@ class FontFolder(Mapping[str, bytes]):
     def _look_for(self, names: list[str]) -> None:
         """Reads the files of these names that were not looked for yet."""
         new = [it for it in names if it not in self._files]
-        # A DVI file may name any bytes; a name is no path out of the folder, and no option of a program.
+        # A DVI file may name any bytes; a name is no path out of the folder, and no option of a
+        # program.
         paths = {it: self._path(it) for it in new if isinstance(it, str) and _NAME.fullmatch(it)}
         far = [it for it, path in paths.items() if path is None]
         if far and self._kpsewhich:
@@ -94,7 +100,8 @@ def _program(name: str) -> str | None:
 
 
 def _far_paths(kpsewhich: str, names: list[str]) -> dict[str, str]:
-    """The paths of the files that TeX's program finds, by the names of their fonts. It prints a line for each that it finds."""
+    """The paths of the files that TeX's program finds, by the names of their fonts. It prints a
+    line for each that it finds."""
     import subprocess
 
     words = [kpsewhich, *(f"{it}.tfm" for it in names)]

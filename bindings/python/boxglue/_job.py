@@ -63,7 +63,8 @@ class _Ended(Generic[EndT]):
 
 @public
 class Job(Commands[Ok, Added, Split, Measured, Shipped]):
-    """A job that is kept between calls. Its calls are the commands of scripts, and `commands` takes a script piece by piece.
+    """A job that is kept between calls. Its calls are the commands of scripts, and `commands` takes
+    a script piece by piece.
 
         with boxglue.Job(fonts) as job:
             job.use(job.load("cmr10"))
@@ -75,13 +76,16 @@ class Job(Commands[Ok, Added, Split, Measured, Shipped]):
             job.finish().check()
             dvi = job.take()
 
-    Close a job, or use it in a `with`; Python closes a job that is dropped. After `close`, each call raises NoJob.
+    Close a job, or use it in a `with`; Python closes a job that is dropped. After `close`, each
+    call raises NoJob.
 
-    Several threads may call; their calls wait for each other. Use typed calls (all except `commands`, `take`, `finish` and `close`) in one thread at a time,
-    since a list that one thread opens is open for all.
+    Several threads may call; their calls wait for each other. Use typed calls (all except
+    `commands`, `take`, `finish` and `close`) in one thread at a time, since a list that one thread
+    opens is open for all.
 
     Args:
-        fonts: A mapping from names to the bytes of metric files, or pairs of both, which the job copies. It takes all fonts of a `FontFolder`.
+        fonts: A mapping from names to the bytes of metric files, or pairs of both, which the job
+            copies. It takes all fonts of a `FontFolder`.
 
     Raises:
         OutOfMemory: The system refused memory.
@@ -90,13 +94,16 @@ class Job(Commands[Ok, Added, Split, Measured, Shipped]):
 
     def __init__(self, fonts: Fonts = ()) -> None:
         given = pairs_of(fonts)
-        # A handler of a signal may close the job where it interrupts a call on it in the same thread.
+        # A handler of a signal may close the job where it interrupts a call on it in the same
+        # thread.
         self._handle, self._lock = JobHandle(), threading.RLock()
-        # The buffers that calls of `take` filled and whose bytes no caller got yet, each with the size of what is in it: more than one where KeyboardInterrupt or
-        # MemoryError cut a call off.
+        # The buffers that calls of `take` filled and whose bytes no caller got yet, each with the
+        # size of what is in it: more than one where KeyboardInterrupt or MemoryError cut a call
+        # off.
         self._filled: list[tuple[Any, c_size_t]] = []
         self._free = weakref.finalize(self, library().boxglue_job_free, self._handle)
-        # When the program ends, a thread that is a daemon may still be inside a call on this job. Its memory goes with the process.
+        # When the program ends, a thread that is a daemon may still be inside a call on this job.
+        # Its memory goes with the process.
         self._free.atexit = False
         status = library().boxglue_job_new(self._handle, *given_fonts(given))
         if status != Status.ACCEPTED:
@@ -129,9 +136,11 @@ class Job(Commands[Ok, Added, Split, Measured, Shipped]):
         self.close()
 
     def commands(self, script: Text) -> Answers:
-        """Runs a piece of a script, which is whole lines. Lines are numbered on from piece to piece.
+        """Runs a piece of a script, which is whole lines. Lines are numbered on from piece to
+        piece.
 
-        A piece with a bad line is refused as a whole: its one reply is this refusal, nothing of it is run, and the job goes on.
+        A piece with a bad line is refused as a whole: its one reply is this refusal, nothing of it
+        is run, and the job goes on.
 
         Args:
             script: The piece. A `str` is handed over as UTF-8.
@@ -170,7 +179,8 @@ class Job(Commands[Ok, Added, Split, Measured, Shipped]):
         return Answers(replies_of(rows, count.value, piece), status == Status.ACCEPTED)
 
     def batch(self) -> Batch:
-        """Makes a batch: commands that are sent in one call, at the end of a `with`. Meanwhile the typed calls of the job itself raise BoxglueError.
+        """Makes a batch: commands that are sent in one call, at the end of a `with`. Meanwhile the
+        typed calls of the job itself raise BoxglueError.
 
         Returns:
             The batch, which has the same typed calls.
@@ -282,33 +292,44 @@ class Job(Commands[Ok, Added, Split, Measured, Shipped]):
         exhyphenpenalty: SupportsIndex = 50,
         first_word: bool = False,
     ) -> HyphenatedParagraph:
-        """Sets a paragraph, whose lines may end within words as TeX's do (docs/AUTHORS.md, section 4), and adds its lines to the vertical list that is open.
+        """Sets a paragraph, whose lines may end within words as TeX's do (docs/AUTHORS.md, section
+        4), and adds its lines to the vertical list that is open.
 
             english = boxglue.hyphenation.Patterns.read("hyphen.tex")
             with job.vbox(into=0):
                 job.paragraph("A well-known text", hyphens=english)
 
-        A line may end after a hyphen of the text, at a `Discretionary` and, if no breaks are as good as pretolerance asks, at the places of the rule.
+        A line may end after a hyphen of the text, at a `Discretionary` and, if no breaks are as
+        good as pretolerance asks, at the places of the rule.
 
         Args:
-            pieces: A text in the current font; or pieces, each a text, a font of `load` for what follows, a `Glue`, a `Discretionary` of boxglue.hyphenation, or a
-                function that adds other items by the calls of the batch that it is given. The paragraph is set up to three times, so let the function copy boxes.
-            hyphens: The rule: a function from a word to the places at which it may be hyphenated, such as Patterns of boxglue.hyphenation. None leaves words whole.
+            pieces: A text in the current font; or pieces, each a text, a font of `load` for what
+                follows, a `Glue`, a `Discretionary` of boxglue.hyphenation, or a function that adds
+                other items by the calls of the batch that it is given. The paragraph is set up to
+                three times, so let the function copy boxes.
+            hyphens: The rule: a function from a word to the places at which it may be hyphenated,
+                such as Patterns of boxglue.hyphenation. None leaves words whole.
             encoding: The codes of the characters in the fonts, as for `text`.
-            hyphenpenalty: The penalty of a break at a place of the rule, and at a discretionary with a part before the break.
-            exhyphenpenalty: The penalty of a break after a hyphen of the text, and at other discretionaries.
+            hyphenpenalty: The penalty of a break at a place of the rule, and at a discretionary
+                with a part before the break.
+            exhyphenpenalty: The penalty of a break after a hyphen of the text, and at other
+                discretionaries.
             first_word: Whether the first word may be hyphenated, which TeX does only after glue.
 
         Returns:
-            The lines, the pass that decided, the demerits, and the places within words that were taken.
+            The lines, the pass that decided, the demerits, and the places within words that were
+            taken.
 
         Raises:
             BadCharacter: A script, or the encoding, does not have a character. Nothing was sent.
-            BoxglueError: No font is current and no font is the first piece, the metrics of a font are not known, or it is not a font of this job.
-            Refused: A command was refused. If the end of a list was, calls raise NeedsRecovery until `recover`.
+            BoxglueError: No font is current and no font is the first piece, the metrics of a font
+                are not known, or it is not a font of this job.
+            Refused: A command was refused. If the end of a list was, calls raise NeedsRecovery
+                until `recover`.
 
         Warns:
-            UserWarning: With hyphens the paragraph would have more than 8,192 places, or more than 65,536 items. The job then ignores the rule.
+            UserWarning: With hyphens the paragraph would have more than 8,192 places, or more than
+                65,536 items. The job then ignores the rule.
         """
         from ._paragraphs import Style, set_paragraph  # here, since few programs set paragraphs so
 
@@ -338,7 +359,8 @@ class Job(Commands[Ok, Added, Split, Measured, Shipped]):
             box: The register.
 
         Returns:
-            The box, as a tree whose objects are made when you visit them; None if the register is void.
+            The box, as a tree whose objects are made when you visit them; None if the register is
+            void.
 
         Raises:
             NoJob: The job is closed.
@@ -367,7 +389,8 @@ class Job(Commands[Ok, Added, Split, Measured, Shipped]):
         )
 
     def take(self) -> bytes:
-        """Takes the bytes of the DVI file that went out since the last call: pages as they were shipped, and the end of the file after `finish`.
+        """Takes the bytes of the DVI file that went out since the last call: pages as they were
+        shipped, and the end of the file after `finish`.
 
         Returns:
             The bytes, which may be none.
@@ -396,17 +419,20 @@ class Job(Commands[Ok, Added, Split, Measured, Shipped]):
                 handed, self._filled = self._filled, []
             return taken
         except BaseException:
-            # KeyboardInterrupt may come while the lock is released, when the buffers are handed on already. They come first in the next call then.
+            # KeyboardInterrupt may come while the lock is released, when the buffers are handed on
+            # already. They come first in the next call then.
             if handed:
                 with self._lock:
                     self._filled[:0] = handed
             raise
 
     def finish(self) -> Answers:
-        """Ends the job. Take the last bytes afterwards. This call does not raise a refusal, such as ListsOpen, and returns it; `job.finish().check()` raises it.
+        """Ends the job. Take the last bytes afterwards. This call does not raise a refusal, such as
+        ListsOpen, and returns it; `job.finish().check()` raises it.
 
         Returns:
-            The reply to the end. After ListsOpen and OutOfMemory the job goes on, and you may end it later.
+            The reply to the end. After ListsOpen and OutOfMemory the job goes on, and you may end
+            it later.
 
         Raises:
             NoJob: The job is closed.
@@ -420,6 +446,7 @@ class Job(Commands[Ok, Added, Split, Measured, Shipped]):
         return Answers(replies_of(rows, 1, piece), status == Status.ACCEPTED)
 
     def close(self) -> None:
-        """Frees the memory of the job. Bytes that were not taken are lost. You may close a job twice."""
+        """Frees the memory of the job. Bytes that were not taken are lost. You may close a job
+        twice."""
         with self._lock:
             self._free()

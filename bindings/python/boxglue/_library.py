@@ -34,7 +34,8 @@ Fonts: TypeAlias = "Mapping[str, Data] | Mapping[bytes, Data] | Iterable[tuple[T
 
 # The name of the library that the system's loader looks for.
 SYSTEM_LIBRARY = "libboxglue.so.1"
-# The sizes of the first buffers. Where an output needs more, the call is made again with what it needs.
+# The sizes of the first buffers. Where an output needs more, the call is made again with what it
+# needs.
 TEXT_ROOM, DVI_ROOM, FONT_ROOM, ITEM_ROOM = 1 << 14, 1 << 16, 64, 256
 
 
@@ -246,7 +247,8 @@ _CALLS = {
 
 
 def library_path() -> str:
-    """The path of the shared object. BOXGLUE_LIBRARY comes first, then this package's file, then the name that the system's loader looks for."""
+    """The path of the shared object. BOXGLUE_LIBRARY comes first, then this package's file, then
+    the name that the system's loader looks for."""
     named = os.environ.get("BOXGLUE_LIBRARY")
     own = os.path.join(os.path.dirname(os.path.abspath(__file__)), "libboxglue.so")
     return os.path.abspath(named) if named else own if os.path.exists(own) else SYSTEM_LIBRARY
@@ -301,7 +303,8 @@ def version() -> str:
 
 @public
 def proved() -> bool:
-    """Tells whether the library that is loaded is proved. An unproved one has run-time checks, and a fault of its own ends the process.
+    """Tells whether the library that is loaded is proved. An unproved one has run-time checks, and
+    a fault of its own ends the process.
 
     Returns:
         What the library itself says.
@@ -313,7 +316,8 @@ def proved() -> bool:
 
 
 def data_of(given: Data, what: str, kinds: str = "bytes") -> bytes:
-    """The bytes of what is like bytes. Nothing else is taken: bytes(7) would be seven zeros, and the name of a file is not the file."""
+    """The bytes of what is like bytes. Nothing else is taken: bytes(7) would be seven zeros, and
+    the name of a file is not the file."""
     try:
         return given if isinstance(given, bytes) else memoryview(given).tobytes()
     except TypeError:
@@ -372,7 +376,8 @@ def given_fonts(given: Fonts) -> tuple[Any, int]:
 
 
 def one_output(call: Callable[..., int], room: int) -> tuple[int, bytes]:
-    """The status and the output of a call with one buffer, which is made again where the buffer is too small."""
+    """The status and the output of a call with one buffer, which is made again where the buffer is
+    too small."""
     size = c_size_t()
     while True:
         buffer = new_buffer(room)

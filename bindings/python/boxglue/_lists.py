@@ -51,7 +51,8 @@ class LoadedFont:
 
 
 class State:
-    """What the typed calls of a job know: lists that they opened, registers and slots that they chose, and the current font."""
+    """What the typed calls of a job know: lists that they opened, registers and slots that they
+    chose, and the current font."""
 
     def __init__(self, fonts: dict[str, Data]) -> None:
         self.lists: list[OpenList[Any]] = []
@@ -60,7 +61,8 @@ class State:
         self.fonts: dict[int, LoadedFont | None] = {}
         self.current: LoadedFont | None = None
         self.next_register, self.free_registers = REGISTERS - 1, list[int]()
-        # A paragraph with hyphens changes this parameter for a while. docs/boxglue.1 has its first value.
+        # A paragraph with hyphens changes this parameter for a while. docs/boxglue.1 has its first
+        # value.
         self.pretolerance = 100
         self.metrics: dict[tuple[str, int | None], Metrics | None] = {}
         self.words: dict[Any, Words] = {}
@@ -81,7 +83,8 @@ class State:
         )
 
     def own(self, font: LoadedFont) -> LoadedFont:
-        """A font, which must be one of this job: by another job's font, texts would have the wrong metrics."""
+        """A font, which must be one of this job: by another job's font, texts would have the wrong
+        metrics."""
         known = self.fonts.get(font.slot)
         if known is not font and (
             known is None or (known.name, known.size) != (font.name, font.size)
@@ -118,7 +121,8 @@ class Typed(Protocol):
 
 @public
 class Register:
-    """A register that a job chose. Give its number or itself to calls, and give it back by `release` or at the end of a `with`.
+    """A register that a job chose. Give its number or itself to calls, and give it back by
+    `release` or at the end of a `with`.
 
     It is void at first. The job voids it again before it gives it to another call.
 
@@ -155,10 +159,12 @@ class Register:
 
 @public
 class OpenList(Generic[EndT]):
-    """A list that a typed call opened, as a context manager. Its end sends `end`, and its reply is here afterwards.
+    """A list that a typed call opened, as a context manager. Its end sends `end`, and its reply is
+    here afterwards.
 
-    After an exception within the `with`, no `end` is sent, since it might end another list. Typed calls on the job then raise NeedsRecovery until you say by
-    `recover` of the job which lists are open.
+    After an exception within the `with`, no `end` is sent, since it might end another list. Typed
+    calls on the job then raise NeedsRecovery until you say by `recover` of the job which lists are
+    open.
 
     Attributes:
         form: "hbox", "vbox", "vtop" or "par".
@@ -235,7 +241,8 @@ class OpenList(Generic[EndT]):
 
 @public
 class OpenBox(OpenList[Packed]):
-    """The list of a box (see OpenList). After its end it has the badness of the box, and its sizes in scaled points."""
+    """The list of a box (see OpenList). After its end it has the badness of the box, and its sizes
+    in scaled points."""
 
     __slots__ = ()
     _KIND = Packed
@@ -263,7 +270,8 @@ class OpenBox(OpenList[Packed]):
 
 @public
 class OpenParagraph(OpenList[Paragraph]):
-    """The list of a paragraph (see OpenList). After its end it has the lines, the pass, the overhang and the demerits."""
+    """The list of a paragraph (see OpenList). After its end it has the lines, the pass, the
+    overhang and the demerits."""
 
     __slots__ = ()
     _KIND = Paragraph

@@ -1,4 +1,5 @@
-"""The pages of a DVI file and their marks. Places and sizes are in DVI units: scaled points in boxglue's own files."""
+"""The pages of a DVI file and their marks. Places and sizes are in DVI units: scaled points in
+boxglue's own files."""
 from __future__ import annotations
 
 import ctypes
@@ -18,7 +19,8 @@ from ._tables import Table, new_table, part_of
 
 # No page has fewer bytes, and no refusal's line has more.
 _SHORTEST_PAGE, _TEXT_ROOM = 46, 64
-# The first room of a table is at most this, so that a great file asks for no great table that it does not fill.
+# The first room of a table is at most this, so that a great file asks for no great table that it
+# does not fill.
 _MOST_ROOM = 1 << 24
 # A scaled point is 25400000 / 473628672 times 10^-7 m.
 _POINTS_NUM, _POINTS_DEN = 25400000, 473628672
@@ -36,7 +38,8 @@ class MarkKind(enum.IntEnum):
 @public
 @dataclass(frozen=True, slots=True)
 class Glyph:
-    """A character of a font, with its reference point at (h, v), and its width by the metric file."""
+    """A character of a font, with its reference point at (h, v), and its width by the metric
+    file."""
 
     h: int
     v: int
@@ -88,9 +91,10 @@ class Units:
 class Marks(Table[Mark]):
     """Marks in order. Each is made when you ask for it, as a Glyph, a Rule or a Special.
 
-    `rows` is the table itself as a memoryview, with a row of nine numbers for each mark: kind (a MarkKind), font, code, h, v, height, width, text_size, and
-    text_start, the place of a text in the bytes of the file. A number that a mark does not have is 0. `numpy.asarray(marks.rows)` has columns of these
-    names, and copies nothing.
+    `rows` is the table itself as a memoryview, with a row of nine numbers for each mark: kind (a
+    MarkKind), font, code, h, v, height, width, text_size, and text_start, the place of a text in
+    the bytes of the file. A number that a mark does not have is 0. `numpy.asarray(marks.rows)` has
+    columns of these names, and copies nothing.
     """
 
     def __init__(self, rows: Any, dvi: bytes) -> None:
@@ -151,19 +155,22 @@ def marks(dvi: Data, fonts: Fonts = ()) -> Document:
 
     Args:
         dvi: The bytes of the file.
-        fonts: The fonts that its pages may select: a mapping from names to the bytes of metric files, a `FontFolder`, or pairs of both.
+        fonts: The fonts that its pages may select: a mapping from names to the bytes of metric
+            files, a `FontFolder`, or pairs of both.
 
     Returns:
         The pages, all their marks, and the units.
 
     Raises:
-        Refused: The file is bad (BadDvi), a font is missing (NoFont), or its metric file is bad (BadTfm) or too large (DimensionTooLarge).
+        Refused: The file is bad (BadDvi), a font is missing (NoFont), or its metric file is bad
+            (BadTfm) or too large (DimensionTooLarge).
         OutOfMemory: The system refused memory.
         BadFontName: The name of a font does not have 1 to 255 bytes.
     """
     data, sizes = data_of(dvi, "a DVI file"), MarkSizes()
     words = file_words(data, fonts)
-    # A mark has at least a byte of the file, so that these rooms suffice for files of up to 16 MiB, and one call is enough.
+    # A mark has at least a byte of the file, so that these rooms suffice for files of up to 16 MiB,
+    # and one call is enough.
     rooms = min(len(data) // _SHORTEST_PAGE, _MOST_ROOM), min(len(data), _MOST_ROOM), _TEXT_ROOM
     while True:
         pages, rows, text = (

@@ -32,7 +32,8 @@ _RATIO = 1 << 20
 
 @public
 class FontStep(NamedTuple):
-    """The step of a font between two characters: a kern of so many scaled points, or a ligature, which is a character in the place of both."""
+    """The step of a font between two characters: a kern of so many scaled points, or a ligature,
+    which is a character in the place of both."""
 
     is_ligature: bool
     value: int
@@ -41,7 +42,8 @@ class FontStep(NamedTuple):
 @public
 @dataclass(frozen=True, slots=True)
 class CharacterMetrics:
-    """The sizes of a character, and its italic correction, in scaled points. An italic correction that is too large for the size is None."""
+    """The sizes of a character, and its italic correction, in scaled points. An italic correction
+    that is too large for the size is None."""
 
     width: int
     height: int
@@ -72,7 +74,8 @@ class FontMetrics:
         design_size: The design size in the metric file.
         check_sum: The check sum in the metric file.
         slant: By how much characters lean, a ratio that does not depend on the size.
-        space: The width of a space; `stretch` and `shrink` are by how much it stretches and shrinks.
+        space: The width of a space; `stretch` and `shrink` are by how much it stretches and
+            shrinks.
         x_height: The height of an x; None if it is too large for the size, as for the other two.
         quad: The width of an em.
         extra_space: The space that is added at the end of a sentence.
@@ -145,7 +148,8 @@ class FontMetrics:
 
 @public
 def metrics(tfm: Data, size: SupportsIndex = 0) -> FontMetrics:
-    """Reads the metrics of a font. All sizes are those with which a job sets text. The package keeps the metrics of the last 256 fonts.
+    """Reads the metrics of a font. All sizes are those with which a job sets text. The package
+    keeps the metrics of the last 256 fonts.
 
         fonts = boxglue.FontFolder("/usr/share/texlive/texmf-dist/fonts/tfm/public/cm")
         found = boxglue.metrics(fonts["cmr10"], boxglue.pt(12))
@@ -159,7 +163,8 @@ def metrics(tfm: Data, size: SupportsIndex = 0) -> FontMetrics:
         The metrics.
 
     Raises:
-        Refused: The metric file is bad (BadTfm), or a number does not fit at this size (DimensionTooLarge).
+        Refused: The metric file is bad (BadTfm), or a number does not fit at this size
+            (DimensionTooLarge).
         ValueError: No font has this size.
         OutOfMemory: The system refused memory.
     """
@@ -167,7 +172,8 @@ def metrics(tfm: Data, size: SupportsIndex = 0) -> FontMetrics:
 
 
 def metrics_of(tfm: Data, size: int | None) -> Metrics | None:
-    """The metrics of a font as typed calls need them: None if the metric file is refused, as the job refuses it, too. The size None is the design size."""
+    """The metrics of a font as typed calls need them: None if the metric file is refused, as the
+    job refuses it, too. The size None is the design size."""
     try:
         return metrics(tfm, size or 0)
     except Refused:

@@ -1,4 +1,5 @@
-"""Which lists are open, as the replies to the commands of a script say, and the commands that were refused."""
+"""Which lists are open, as the replies to the commands of a script say, and the commands that were
+refused."""
 from __future__ import annotations
 
 import ctypes
@@ -19,7 +20,8 @@ if TYPE_CHECKING:
 
 # The numbers in boxglue.h of the replies that open or end a list, and of a refused command.
 _OK, _REFUSED, _PACKED, _PARAGRAPH = 0, 1, 3, 8
-# Open lists explain these refusals: WrongMode, and VoidBox, because a box without its `end` is not in its register yet.
+# Open lists explain these refusals: WrongMode, and VoidBox, because a box without its `end` is not
+# in its register yet.
 BY_OPEN_LISTS = 8, 21
 # How many names of fonts a message shows.
 _SHOWN_FONTS = 8
@@ -38,7 +40,8 @@ def line_of(code: CodeType, place: int) -> tuple[str, int]:
 
 
 class Opened(NamedTuple):
-    """An open list: its form, the number of its line, and the instruction of the typed call that opened it."""
+    """An open list: its form, the number of its line, and the instruction of the typed call that
+    opened it."""
 
     form: Form
     line: int
@@ -50,8 +53,8 @@ class Opened(NamedTuple):
 
 
 class Calls:
-    """What a batch knows of its commands: the instruction of each one's call, as the code and the place in it; and the lines that open a list, with its form, or end one,
-    with None."""
+    """What a batch knows of its commands: the instruction of each one's call, as the code and the
+    place in it; and the lines that open a list, with its form, or end one, with None."""
 
     __slots__ = "codes", "places", "lists"
 
@@ -67,7 +70,8 @@ class Calls:
 
 
 class Piece:
-    """A piece of a script that was run: whole lines, of which the first has a number, the lists that were open before, and the typed calls that it came from."""
+    """A piece of a script that was run: whole lines, of which the first has a number, the lists
+    that were open before, and the typed calls that it came from."""
 
     def __init__(
         self,
@@ -112,7 +116,8 @@ class Piece:
         return self._walk([])[1]
 
     def _walk(self, asked: list[int]) -> tuple[dict[int, list[Opened]], list[Opened]]:
-        """The lists that are open before each of these lines, in rising order, and those that are open at the end."""
+        """The lists that are open before each of these lines, in rising order, and those that are
+        open at the end."""
         first, opened = self._first, [*self._before]
         found, waiting = dict[int, list[Opened]](), asked[::-1]
         for index, form in self._lists.items():
@@ -126,7 +131,8 @@ class Piece:
         return {**found, **dict.fromkeys(waiting, opened)}, opened
 
     def _kind(self, at: int) -> int:
-        """The kind of the reply to a line. Replies are looked for if lines before this one have none."""
+        """The kind of the reply to a line. Replies are looked for if lines before this one have
+        none."""
         rows, line = self._rows, self._first + at
         if at >= len(rows) or rows[at].line != line:
             at = bisect_left(self._numbers, line)
@@ -146,7 +152,8 @@ class Piece:
 
     @functools.cached_property
     def _at_refusals(self) -> dict[int, list[Opened]]:
-        """The lists that were open when a command was refused because of them, by the line of that command."""
+        """The lists that were open when a command was refused because of them, by the line of that
+        command."""
         return self._walk(
             [
                 row.line
@@ -184,7 +191,8 @@ class Piece:
 
 
 def hint_of(refused: Refused, command: str, fonts: tuple[str, ...] | None) -> str:
-    """The names of the job's fonts, if they are known and a command names a font that the job does not have."""
+    """The names of the job's fonts, if they are known and a command names a font that the job does
+    not have."""
     if fonts is None or refused.name != "NoFont" or not command.startswith("font "):
         return ""
     if not fonts:

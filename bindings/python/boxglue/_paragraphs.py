@@ -1,4 +1,5 @@
-"""The lists of a paragraph that may have hyphens (docs/AUTHORS.md, section 4): how words are cut, and how the list is set."""
+"""The lists of a paragraph that may have hyphens (docs/AUTHORS.md, section 4): how words are cut,
+and how the list is set."""
 
 from __future__ import annotations
 
@@ -35,7 +36,8 @@ MOST_PLACES = 8192
 KEPT_WORDS = 16
 # What the special before a place begins with; the number of the place follows.
 MARK = "boxglue place "
-# The first words of commands that TeX lets follow a word that it hyphenates: glue, kerns, penalties and whatsits (TeX: The Program, §899).
+# The first words of commands that TeX lets follow a word that it hyphenates: glue, kerns, penalties
+# and whatsits (TeX: The Program, §899).
 _AFTER_WORDS = {"glue", "kern", "penalty", "special"}
 
 
@@ -56,14 +58,16 @@ class Kept(dict[KeyT, ValueT]):
 
 
 class Place(NamedTuple):
-    """A place for a break within a word. What stands for it in a list is ready: the lines of commands, or a text, which joins the texts beside it.
+    """A place for a break within a word. What stands for it in a list is ready: the lines of
+    commands, or a text, which joins the texts beside it.
 
     Attributes:
         is_automatic: Whether a rule found it.
         trial: The lines that let the line be broken here or not, after the special that marks them.
         before: The text before a break here, or the lines of commands if this is a discretionary.
         after: The lines of commands after a break here.
-        unbroken: The lines of a discretionary that is not broken; None for other places, whose texts on both sides join.
+        unbroken: The lines of a discretionary that is not broken; None for other places, whose
+            texts on both sides join.
         word: The word; of a discretionary and a place after a hyphen, the part before it.
         rest: The place of a rule in the word; else the part after it.
     """
@@ -135,18 +139,21 @@ class Words:
     """The words of one font and style, cut where they may be broken. Each is looked at once.
 
     Attributes:
-        cuts: Words between two spaces, cut where they may be broken, with the second space; None for a word that is one text.
+        cuts: Words between two spaces, cut where they may be broken, with the second space; None
+            for a word that is one text.
     """
 
     def __init__(self, style: Style, metrics: Metrics) -> None:
         self.style, self.metrics = style, metrics
         self._encoding = ASCII if style.encoding is None else style.encoding
         self._codes: dict[str, int] = {}
-        # The codes that the font is known to have, the kerns of pairs of them, None for a ligature, and the trials of places by their two kerns.
+        # The codes that the font is known to have, the kerns of pairs of them, None for a ligature,
+        # and the trials of places by their two kerns.
         self._there: set[int] = set()
         self._kerns = Kept(self._kern)
         self._trials = Kept(self._trial)
-        # For two codes what the second adds to the width before the last glyph, and this glyph; and the widths of glyphs.
+        # For two codes what the second adds to the width before the last glyph, and this glyph; and
+        # the widths of glyphs.
         self.steps = Kept(self._step)
         self.widths = Kept(metrics.width)
         self.cuts = Kept(self._cut)
@@ -178,14 +185,16 @@ class Words:
         return width_of(self.codes(text), self.metrics)
 
     def _cut(self, word: str) -> Cut | None:
-        """A word between two spaces, cut where it may be broken, with the second space; None if it is one text."""
+        """A word between two spaces, cut where it may be broken, with the second space; None if it
+        is one text."""
         if len(word) < 2:
             return None
         places = (self.explicit if self.style.hyphen in word else self.automatic)(word)
         return cut(f"{word} ", places) if places else None
 
     def explicit(self, word: str) -> dict[int, Place]:
-        """The places after hyphens and dashes, but for one at the end. The kern after a hyphen stays at the beginning of a line, as in TeX, so it is a rule."""
+        """The places after hyphens and dashes, but for one at the end. The kern after a hyphen
+        stays at the beginning of a line, as in TeX, so it is a rule."""
         if self.style.hyphen not in word:
             return {}
         found, at, glyphs = {}, 0, list(shaped(self.codes(word), self.metrics))
@@ -254,7 +263,8 @@ class Words:
         return (None if step.is_ligature else step.value) if step else 0
 
     def _step(self, pair: tuple[int, int]) -> tuple[int, int]:
-        """What a character after a glyph adds to the width before the last glyph, and this glyph."""
+        """What a character after a glyph adds to the width before the last glyph, and this
+        glyph."""
         step = self.metrics.step(*pair)
         if step and step.is_ligature:
             return 0, step.value
@@ -263,7 +273,8 @@ class Words:
     def _ligated(
         self, word: str, codes: Sequence[int], cuts: Sequence[int], letters: tuple[int, int]
     ) -> dict[int, tuple[int, int]]:
-        """The two kerns of each place of a word with ligatures. A ligature of a letter and another character does not count as a letter (TeX: The Program, §898)."""
+        """The two kerns of each place of a word with ligatures. A ligature of a letter and another
+        character does not count as a letter (TeX: The Program, §898)."""
         glyphs = list(shaped(codes, self.metrics))
         ends = [0, *accumulate(len(sources) for sources, _, _ in glyphs)]
         start, stop = letters
@@ -275,14 +286,16 @@ class Words:
         return Ligated(self, codes, glyphs).kerns(cuts)
 
     def _trial(self, kerns: tuple[int, int]) -> str:
-        """The lines of a place of the rule, by what the hyphen adds to the line, and what joining the parts adds to their widths."""
+        """The lines of a place of the rule, by what the hyphen adds to the line, and what joining
+        the parts adds to their widths."""
         hyphen, joined = kerns
         back = f"kern {joined - hyphen}sp\n" if joined != hyphen else ""
         return f"kern {hyphen}sp\npenalty {self.style.penalty}\n{back}"
 
 
 class Ligated:
-    """A word with ligatures. Of the places within one ligature the first is offered, and a place is left out if the width of a line would depend on another break."""
+    """A word with ligatures. Of the places within one ligature the first is offered, and a place is
+    left out if the width of a line would depend on another break."""
 
     def __init__(
         self, words: Words, codes: Sequence[int], glyphs: Sequence[tuple[Sequence[int], int, int]]
@@ -292,7 +305,8 @@ class Ligated:
         self._widths = Kept(self._widths_from)
 
     def _widths_from(self, start: int) -> list[tuple[int, int]]:
-        """The widths of the parts that begin at a place, by their ends, each without a hyphen after it and with one."""
+        """The widths of the parts that begin at a place, by their ends, each without a hyphen after
+        it and with one."""
         steps, widths, hyphen = self._words.steps, self._words.widths, self._words.hyphen
         code, done, found = self._codes[start], 0, [(0, 0)] * (start + 1)
         for following in [*self._codes[start + 1 :], hyphen]:
@@ -303,7 +317,8 @@ class Ligated:
         return found
 
     def _kerns_at(self, at: int, ends: Sequence[int]) -> tuple[set[int], set[int]]:
-        """What a hyphen at a place adds to its line, and what joining the parts on both sides adds to their widths, for all parts between two of these ends."""
+        """What a hyphen at a place adds to its line, and what joining the parts on both sides adds
+        to their widths, for all parts between two of these ends."""
         widths = self._widths
         before, after = [it for it in ends if it < at], [it for it in ends if it > at]
         added = {hyphenated - plain for plain, hyphenated in [widths[it][at] for it in before]}
@@ -527,7 +542,8 @@ class Source:
             self._add(Cut([""], [words.after_hyphen(text, "", 0)]))
 
     def _discretionary(self, it: Discretionary, is_last: bool) -> None:
-        """Adds a discretionary. If it has no part for the next line and stands before glue, the glue is the place, and not the discretionary."""
+        """Adds a discretionary. If it has no part for the next line and stands before glue, the
+        glue is the place, and not the discretionary."""
         words, style = self._words, self._style
         before, after, unbroken = (
             words.lines(text) if text else "" for text in (it.before, it.after, it.unbroken)
@@ -554,7 +570,8 @@ class Source:
         self._add(Cut([""], [place]))
 
     def _hyphenated(self, group: list[Atom]) -> int | None:
-        """Which atom of a group has the letters that TeX would hyphenate (TeX: The Program, §894 to 899)."""
+        """Which atom of a group has the letters that TeX would hyphenate (TeX: The Program, §894 to
+        899)."""
         for at, atom in enumerate(group):
             if isinstance(atom, Text):
                 if self._style.hyphen in atom.text:
@@ -579,7 +596,8 @@ class Source:
         return True
 
 
-# What stands for a place in a list: the end of the text before it, and lines; None if the texts on both sides join.
+# What stands for a place in a list: the end of the text before it, and lines; None if the texts on
+# both sides join.
 Shown: TypeAlias = "tuple[str, str] | None"
 
 
@@ -608,7 +626,8 @@ def own_place(place: Place, number: int) -> Shown:
 
 
 def ends_at_places(box: Box | None) -> dict[int, int]:
-    """The lines of a vbox that end at a marked place, by the number of the place: the last item of such a line is its penalty."""
+    """The lines of a vbox that end at a marked place, by the number of the place: the last item of
+    such a line is its penalty."""
     if box is None:
         return {}
     rows, texts = box._table.rows, box._table.texts
@@ -632,18 +651,21 @@ def ends_at_places(box: Box | None) -> dict[int, int]:
 
 
 class Setting:
-    """The settings of one paragraph: trials in a box of their own, and the last one in the list that is open."""
+    """The settings of one paragraph: trials in a box of their own, and the last one in the list
+    that is open."""
 
     def __init__(self, job: Job, source: Source) -> None:
         self._job, self._source = job, source
         self.reply = Paragraph(0, 0, 0, 0, 0)
-        # The lines that end at places, by the numbers of these; and the pretolerance by which this was found.
+        # The lines that end at places, by the numbers of these; and the pretolerance by which this
+        # was found.
         self._ends: dict[int, int] = {}
         self._pretolerance = job._state.pretolerance
         self._shown: list[HyphenPlace] = []
 
     def trial(self, is_automatic: bool, is_first: bool) -> None:
-        """Sets the paragraph to find its breaks. A trial with the places of a rule has no first pass; a trial before it counts only if its first pass decides."""
+        """Sets the paragraph to find its breaks. A trial with the places of a rule has no first
+        pass; a trial before it counts only if its first pass decides."""
         self._pretolerance = -1 if is_automatic else self._job._state.pretolerance
         lines = lines_of(self._source, any_place if is_automatic else own_place)
         with self._job.register() as box:
@@ -705,7 +727,8 @@ class Setting:
 def set_paragraph(
     job: Job, pieces: str | Iterable[Piece], style: Style, first_word: bool
 ) -> HyphenatedParagraph:
-    """Sets a paragraph as TeX does: first with only its own places, at pretolerance; if no breaks are that good, with all places."""
+    """Sets a paragraph as TeX does: first with only its own places, at pretolerance; if no breaks
+    are that good, with all places."""
     given = iter([pieces] if isinstance(pieces, str) else pieces)
     first = next(given, "")
     font = job._state.own(first) if isinstance(first, LoadedFont) else job._state.current
@@ -727,7 +750,8 @@ def set_paragraph(
 
 
 def try_automatic(setting: Setting) -> None:
-    """Sets a paragraph with the places of the rule, or, where these make the list too long, without them."""
+    """Sets a paragraph with the places of the rule, or, where these make the list too long, without
+    them."""
     try:
         setting.trial(True, False)
     except Refused as refused:

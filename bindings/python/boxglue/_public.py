@@ -7,7 +7,8 @@ _Named = TypeVar("_Named")
 
 
 def public(it: _Named) -> _Named:
-    """Names a class or a function as users know it: `boxglue.Job`, not `boxglue._job.Job`, in tracebacks, pickles and help.
+    """Names a class or a function as users know it: `boxglue.Job`, not `boxglue._job.Job`, in
+    tracebacks, pickles and help.
 
     Args:
         it: The class or the function.

@@ -1,4 +1,5 @@
-"""Replies to commands: what a command did, in numbers, or why it was refused. Dimensions are scaled points."""
+"""Replies to commands: what a command did, in numbers, or why it was refused. Dimensions are scaled
+points."""
 import enum
 from collections.abc import Callable
 from dataclasses import dataclass
@@ -11,7 +12,8 @@ from ._status import Refused
 from ._tables import Table
 
 _BOX_KINDS: tuple[Literal["hbox"], Literal["vbox"]] = "hbox", "vbox"
-# The names of refusals and of their causes by their numbers (docs/REFUSALS.md; docs/FORMATS.md, sections 7, 9 and 2).
+# The names of refusals and of their causes by their numbers (docs/REFUSALS.md; docs/FORMATS.md,
+# sections 7, 9 and 2).
 _REFUSALS = {
     1: "OutOfMemory",
     2: "BadScript",
@@ -115,7 +117,8 @@ class Packed:
 @public
 @dataclass(frozen=True, slots=True)
 class Measured:
-    """A box was measured: an "hbox", or a "vbox", which may be a vtop. If the register is "void", all sizes are 0."""
+    """A box was measured: an "hbox", or a "vbox", which may be a vtop. If the register is "void",
+    all sizes are 0."""
 
     line: int
     kind: Literal["hbox", "vbox", "void"]
@@ -131,7 +134,8 @@ class Measured:
 @public
 @dataclass(frozen=True, slots=True)
 class Added:
-    """Items were added to the list. `missing` counts the characters of a text that the font lacks, up to 2^32 - 1; it is None for other items."""
+    """Items were added to the list. `missing` counts the characters of a text that the font lacks,
+    up to 2^32 - 1; it is None for other items."""
 
     line: int
     items: int
@@ -146,7 +150,8 @@ class Added:
 @public
 @dataclass(frozen=True, slots=True)
 class Paragraph:
-    """A paragraph was broken into lines, by one of the passes 1 to 3. `overhang` is by how much they are overfull. An empty paragraph has 0 four times."""
+    """A paragraph was broken into lines, by one of the passes 1 to 3. `overhang` is by how much
+    they are overfull. An empty paragraph has 0 four times."""
 
     line: int
     lines: int
@@ -161,7 +166,8 @@ class Paragraph:
 @public
 @dataclass(frozen=True, slots=True)
 class Split:
-    """A vertical box was split. `badness` is the front's. `rest` is None if nothing is left, and `front` is None if the register was void."""
+    """A vertical box was split. `badness` is the front's. `rest` is None if nothing is left, and
+    `front` is None if the register was void."""
 
     line: int
     front: Sizes | None
@@ -265,10 +271,12 @@ def _answer(reply: Reply) -> str:
 
 @public
 class Replies(Table[Reply]):
-    """The replies to commands, in order. Each is made when you ask for it, as an Ok, Packed, Measured, Added, Paragraph, Split, Shipped or End, or as the
-    exception Refused, which is not raised here.
+    """The replies to commands, in order. Each is made when you ask for it, as an Ok, Packed,
+    Measured, Added, Paragraph, Split, Shipped or End, or as the exception Refused, which is not
+    raised here.
 
-    `rows` is the table itself as a memoryview, a struct boxglue_reply for each reply, whose kinds are numbers of ReplyKind.
+    `rows` is the table itself as a memoryview, a struct boxglue_reply for each reply, whose kinds
+    are numbers of ReplyKind.
     """
 
     def __init__(self, rows: Any, piece: Piece) -> None:

@@ -37,7 +37,8 @@ class _Answered:
 
     @functools.cached_property
     def answers_text(self) -> str:
-        """The replies as texts, a line each (docs/FORMATS.md, section 3). They are made when they are asked for."""
+        """The replies as texts, a line each (docs/FORMATS.md, section 3). They are made when they
+        are asked for."""
         return self.replies.answers_text
 
     @property
@@ -70,9 +71,11 @@ _Given = TypeVar("_Given", bound=_Answered)
 @public
 @dataclass(frozen=True)
 class Run(_Answered):
-    """A run of a script: the replies to its commands and to its end, the bytes of the DVI file, and whether everything was accepted.
+    """A run of a script: the replies to its commands and to its end, the bytes of the DVI file, and
+    whether everything was accepted.
 
-    If no page was shipped, `dvi` is empty. If the end was refused, `dvi` is not a whole file. A script with a bad line has one reply, and its `dvi` is empty.
+    If no page was shipped, `dvi` is empty. If the end was refused, `dvi` is not a whole file. A
+    script with a bad line has one reply, and its `dvi` is empty.
     """
 
     replies: Replies
@@ -83,7 +86,8 @@ class Run(_Answered):
 @public
 @dataclass(frozen=True)
 class Answers(_Answered):
-    """The replies to the commands of a piece, or to the end of a job, and whether everything was accepted."""
+    """The replies to the commands of a piece, or to the end of a job, and whether everything was
+    accepted."""
 
     replies: Replies
     accepted: bool
@@ -95,7 +99,8 @@ def run(script: Text, fonts: Fonts = ()) -> Run:
 
     Args:
         script: The script. A `str` is handed over as UTF-8.
-        fonts: The fonts that it may load: a mapping from names to the bytes of metric files, a `FontFolder`, or pairs of both.
+        fonts: The fonts that it may load: a mapping from names to the bytes of metric files, a
+            `FontFolder`, or pairs of both.
 
     Returns:
         The replies and the DVI file. A refusal is a reply, and `run(..).check()` raises it.
@@ -108,7 +113,8 @@ def run(script: Text, fonts: Fonts = ()) -> Run:
     given = given_fonts(
         fonts.choose(names_in_script(text)) if isinstance(fonts, FontFolder) else fonts
     )
-    # A reply to each line and one to the end. The file is rarely longer than two times the script; where it is, the script is run again.
+    # A reply to each line and one to the end. The file is rarely longer than two times the script;
+    # where it is, the script is run again.
     rooms = text.count(b"\n") + 2, max(DVI_ROOM, 2 * len(text))
     while True:
         rows, dvi = new_table(ReplyRow, rooms[0]), new_buffer(rooms[1])

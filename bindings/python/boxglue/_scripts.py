@@ -1,4 +1,5 @@
-"""The texts of commands (docs/FORMATS.md, section 2). All that a script cannot have is refused here, before anything is sent."""
+"""The texts of commands (docs/FORMATS.md, section 2). All that a script cannot have is refused
+here, before anything is sent."""
 from __future__ import annotations
 
 import re
@@ -20,7 +21,8 @@ _NO_CHARACTER = re.compile(r"[^ -~]")
 
 @public
 class Glue(NamedTuple):
-    """Glue, as a value of a parameter: its width, stretch and shrink. Stretch and shrink are scaled points, or an amount and an order, such as (1, "fil")."""
+    """Glue, as a value of a parameter: its width, stretch and shrink. Stretch and shrink are scaled
+    points, or an amount and an order, such as (1, "fil")."""
 
     width: SupportsIndex
     plus: Stretch = 0
@@ -29,7 +31,8 @@ class Glue(NamedTuple):
 
 @public
 def quote(text: str | bytes) -> str:
-    """Tests whether a script can have a text, in a line of `text` or `special`. Scripts have no escapes, so the text stays as it is.
+    """Tests whether a script can have a text, in a line of `text` or `special`. Scripts have no
+    escapes, so the text stays as it is.
 
     Args:
         text: A str, or bytes of ASCII.
@@ -38,7 +41,8 @@ def quote(text: str | bytes) -> str:
         The text.
 
     Raises:
-        BadCharacter: It has a character that scripts cannot have, such as a line feed or an accented letter. The exception has its place.
+        BadCharacter: It has a character that scripts cannot have, such as a line feed or an
+            accented letter. The exception has its place.
 
     Example:
         script = f"special {boxglue.quote(address)}\\n"
@@ -69,7 +73,8 @@ def _remedy(character: str) -> str:
 
 
 def _fail_number(given: object, least: int, most: int, what: str) -> NoReturn:
-    """Raises what is wrong with a number. A float is refused even where it is whole: what computes it may be a little off elsewhere."""
+    """Raises what is wrong with a number. A float is refused even where it is whole: what computes
+    it may be a little off elsewhere."""
     if not hasattr(given, "__index__"):
         raise TypeError(f"{what} must be a whole number, not {given!r:.40}") from None
     raise ValueError(f"{what} must be {least:,} to {most:,}, not {given}")

@@ -12,7 +12,8 @@ Form: TypeAlias = Literal["hbox", "vbox", "vtop", "par"]
 
 @public
 class Status(enum.IntEnum):
-    """The statuses of the library's calls. The calls of this package return results instead, and raise an exception if there is none."""
+    """The statuses of the library's calls. The calls of this package return results instead, and
+    raise an exception if there is none."""
 
     ACCEPTED = 0
     REFUSED = 1
@@ -73,7 +74,8 @@ class ListOpening(NamedTuple):
 
 @public
 class Refused(BoxglueError):
-    """A command, a script or a DVI file was refused. An attribute that a refusal does not have is None.
+    """A command, a script or a DVI file was refused. An attribute that a refusal does not have is
+    None.
 
     Two refusals are equal if the library says the same of them.
 
@@ -86,7 +88,8 @@ class Refused(BoxglueError):
         detail: The text after the name, such as "74 Trailer" after "BadDvi".
         command: The command that was refused, such as "use 7"; the bad line of a script.
         caller: The file and the line of the typed call that sent it.
-        open_lists: After "WrongMode", "VoidBox" and "ListsOpen" the open lists, the innermost one last.
+        open_lists: After "WrongMode", "VoidBox" and "ListsOpen" the open lists, the innermost one
+            last.
         hint: What else its text says, such as which fonts the job has after "NoFont"; else "".
     """
 
@@ -134,7 +137,8 @@ class Refused(BoxglueError):
         open_lists: tuple[ListOpening, ...] = (),
         hint: str = "",
     ) -> Refused:
-        """Returns the same refusal with its command, the place of its call, the open lists, and a hint.
+        """Returns the same refusal with its command, the place of its call, the open lists, and a
+        hint.
 
         Args:
             command: The command that was refused.
@@ -154,7 +158,8 @@ class Refused(BoxglueError):
         return hash(self._parts)
 
     def __reduce__(self) -> tuple[type[Refused], tuple[object, ...]]:
-        # By default an exception is made again from its message alone, which fails; a worker of a process pool that raises it would hang the pool.
+        # By default an exception is made again from its message alone, which fails; a worker of a
+        # process pool that raises it would hang the pool.
         return type(self), (*self._parts, self.command, self.caller, self.open_lists, self.hint)
 
 
@@ -180,7 +185,8 @@ class BadCharacter(BoxglueError, ValueError):
 
 @public
 class NeedsRecovery(BoxglueError):
-    """An exception left a list open, so the next typed call would add to it. Say by `recover` of the job which lists are open."""
+    """An exception left a list open, so the next typed call would add to it. Say by `recover` of
+    the job which lists are open."""
 
 
 @public
@@ -210,7 +216,8 @@ class NoJob(BoxglueError, ValueError):
 
 @public
 class AnswersLost(BoxglueError, MemoryError):
-    """The commands were run, and the system refused memory for the text of their answers. No call of this package raises it."""
+    """The commands were run, and the system refused memory for the text of their answers. No call
+    of this package raises it."""
 
 
 _ERRORS: dict[int, type[BoxglueError]] = {

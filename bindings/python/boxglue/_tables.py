@@ -7,7 +7,8 @@ from abc import abstractmethod
 from collections.abc import Iterator, Sequence
 from typing import Any, TypeVar, overload
 
-# A table of this size or more is mapped, so that rows which a call does not write take no memory. Memory of the heap is quicker, which the kernel need not clear.
+# A table of this size or more is mapped, so that rows which a call does not write take no memory.
+# Memory of the heap is quicker, which the kernel need not clear.
 _MAPPED = 1 << 20
 Item = TypeVar("Item")
 _Same = TypeVar("_Same", bound="Table[Any]")
@@ -32,7 +33,8 @@ def part_of(table: Any, first: int, count: int) -> Any:
 
 
 class Table(Sequence[Item]):
-    """Items in order. Each is made from its row when it is asked for. A slice of neighbours copies no row."""
+    """Items in order. Each is made from its row when it is asked for. A slice of neighbours copies
+    no row."""
 
     def __init__(self, rows: Any, *beside: object) -> None:
         """An array of structs, and what else items are made from."""
@@ -44,7 +46,8 @@ class Table(Sequence[Item]):
 
     @property
     def rows(self) -> memoryview:
-        """The table as a memoryview, which cannot be written. From Python 3.12 on `memoryview` of this gives the same."""
+        """The table as a memoryview, which cannot be written. From Python 3.12 on `memoryview` of
+        this gives the same."""
         return memoryview(self._rows).toreadonly()
 
     def __buffer__(self, _flags: int) -> memoryview:

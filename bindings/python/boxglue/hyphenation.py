@@ -1,4 +1,5 @@
-"""Hyphens in paragraphs: the places of words, by TeX's patterns or by a rule of yours, for `Job.paragraph`.
+"""Hyphens in paragraphs: the places of words, by TeX's patterns or by a rule of yours, for
+`Job.paragraph`.
 
     from boxglue import hyphenation
 
@@ -7,10 +8,12 @@
         done = job.paragraph("A text of some lines.", hyphens=english)
     print(done.lines, done.demerits, done.places)
 
-A rule is any function that takes a word and returns places: place 2 of "hyphen" is after "hy". `Patterns` is one, with the words of TeX's files, and so is what
-`by_pyphen` returns for the dictionaries of pyphen.
+A rule is any function that takes a word and returns places: place 2 of "hyphen" is after "hy".
+`Patterns` is one, with the words of TeX's files, and so is what `by_pyphen` returns for the
+dictionaries of pyphen.
 
-Paths, names of programs and long words get no hyphens. `without_hyphens` finds them, and `breakable`
+Paths, names of programs and long words get no hyphens. `without_hyphens` finds them, and
+`breakable`
 says where a line may end in them.
 """
 
@@ -59,19 +62,22 @@ _LONG_ADDRESS, _LONG_CODE, _LONG_NAME, _LONG_PATH, _LONG_WORD = 25, 8, 12, 25, 4
 # The penalties of a break within a word, where it is worse, and that forbid one.
 _OTHER_COST, _LONG_COST, _WORSE_COST, _NO_BREAK = 50, 150, 1000, 10_000
 
-# A rule for hyphens: a function from a word to places, each the number of letters before it. `Patterns` has this form.
+# A rule for hyphens: a function from a word to places, each the number of letters before it.
+# `Patterns` has this form.
 Rule: TypeAlias = Callable[[str], Iterable[int]]
 
 
 @dataclass(frozen=True, slots=True)
 class Discretionary:
-    """A place of your own for a break, as TeX's \\discretionary, such as Discretionary("k-", "k", "ck") in the German word Drucker.
+    """A place of your own for a break, as TeX's \\discretionary, such as Discretionary("k-", "k",
+    "ck") in the German word Drucker.
 
     Attributes:
         before: What ends the line if it is broken here.
         after: What begins the next line then.
         unbroken: What is here if the line is not broken.
-        penalty: The penalty of a break; None is hyphenpenalty, or exhyphenpenalty if `before` is empty.
+        penalty: The penalty of a break; None is hyphenpenalty, or exhyphenpenalty if `before` is
+            empty.
     """
 
     before: str = "-"
@@ -80,7 +86,8 @@ class Discretionary:
     penalty: int | None = None
 
 
-# A piece of a paragraph: a text, a font for what follows, glue, a discretionary, or a function that adds other items by the typed calls of the batch that it is given.
+# A piece of a paragraph: a text, a font for what follows, glue, a discretionary, or a function that
+# adds other items by the typed calls of the batch that it is given.
 Piece: TypeAlias = "str | LoadedFont | Glue | Discretionary | Callable[[Batch], object]"
 
 
@@ -105,7 +112,8 @@ class HyphenatedParagraph:
 
     Attributes:
         lines: The number of its lines.
-        deciding_pass: The pass that decided, 1 to 3. The first pass tries no hyphens that a rule finds.
+        deciding_pass: The pass that decided, 1 to 3. The first pass tries no hyphens that a rule
+            finds.
         overhang: By how much its lines are overfull, in scaled points.
         demerits: Its demerits, in which each place that was taken has the square of its penalty.
         places: The places within words at which lines were broken, in order.
@@ -119,10 +127,12 @@ class HyphenatedParagraph:
 
 
 class Patterns:
-    """TeX's patterns, with exceptions: called with a word, it returns the places at which TeX would hyphenate it (F. M. Liang's rule; TeX: The Program, §919 to 931).
+    """TeX's patterns, with exceptions: called with a word, it returns the places at which TeX would
+    hyphenate it (F. M. Liang's rule; TeX: The Program, §919 to 931).
 
     Attributes:
-        letters: The characters beside the letters of Unicode that a word may have, such as the apostrophe of French patterns.
+        letters: The characters beside the letters of Unicode that a word may have, such as the
+            apostrophe of French patterns.
 
     Args:
         patterns: The patterns, such as "hy3ph" and ".ach4".
@@ -143,7 +153,8 @@ class Patterns:
         right: int = 3,
     ) -> None:
         self.left, self.right = (max(1, min(it, MOST_LETTERS)) for it in (left, right))
-        # For each letter the values of the pattern that ends with it, and the letters that may follow. `_keys` counts the letters.
+        # For each letter the values of the pattern that ends with it, and the letters that may
+        # follow. `_keys` counts the letters.
         self._tree: dict[str, list[Any]] = {}
         self._keys = 0
         given = [*patterns]
@@ -163,12 +174,14 @@ class Patterns:
         left: int | None = None,
         right: int | None = None,
     ) -> Patterns:
-        """Reads files of TeX, such as hyphen.tex and hyph-de-1996.tex: their \\patterns and \\hyphenation.
+        """Reads files of TeX, such as hyphen.tex and hyph-de-1996.tex: their \\patterns and
+        \\hyphenation.
 
         Args:
             paths: The files, in UTF-8.
             exceptions: Words with all their hyphens, which come before those of the files.
-            left: As for Patterns; None is the number in the comments of the file, as in hyph-de-1996.tex, or 2.
+            left: As for Patterns; None is the number in the comments of the file, as in
+                hyph-de-1996.tex, or 2.
             right: The same, or 3.
 
         Returns:
@@ -257,8 +270,8 @@ def _places_of(exception: str) -> list[int]:
 
 
 def by_pyphen(language: str, *, left: int = 2, right: int = 2) -> Rule:
-    """Makes a rule of a dictionary of the package pyphen, such as "de_DE". It leaves out hyphens that change the letters of a word: these are a
-    `Discretionary`.
+    """Makes a rule of a dictionary of the package pyphen, such as "de_DE". It leaves out hyphens
+    that change the letters of a word: these are a `Discretionary`.
 
     Args:
         language: The name of the dictionary.

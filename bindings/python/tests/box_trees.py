@@ -1,4 +1,5 @@
-"""Compares the tree of the box of each page with the marks of that page in the shipped file, on random documents: box_trees.py DOCUMENTS METRICS.
+"""Compares the tree of the box of each page with the marks of that page in the shipped file, on
+random documents: box_trees.py DOCUMENTS METRICS.
 
 A document is a line `document SIZE` and a script of this size."""
 import re
@@ -28,7 +29,8 @@ def mark_of(mark, x, y):
 
 
 def boxes_of(job, script):
-    """The boxes of the pages that a script ships, each as it was before, and the places of their reference points."""
+    """The boxes of the pages that a script ships, each as it was before, and the places of their
+    reference points."""
     pages, offset = [], {b"h": 0, b"v": 0}
     for piece in re.findall(rb"(?:.*\n)*?(?:ship \d+\n|\Z)", script):
         lines, _, ship = piece.rstrip(b"\n").rpartition(b"\n")

@@ -1,4 +1,5 @@
-"""Prints the metrics of files at a size as lines, as bindings/c does: font_metrics.py SIZE FILE .."""
+"""Prints the metrics of files at a size as lines, as bindings/c does: font_metrics.py SIZE FILE
+.."""
 import sys
 
 import boxglue

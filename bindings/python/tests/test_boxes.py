@@ -17,7 +17,8 @@ CASE = re.compile(
 
 
 def shown_cases():
-    """The boxes that TeX shows: the font with kerns, and for each box what tests/shown-boxes printed."""
+    """The boxes that TeX shows: the font with kerns, and for each box what tests/shown-boxes
+    printed."""
     with open(f"{HERE}/shown_boxes.txt", encoding="ascii") as it:
         head, _, rest = it.read().rstrip("\n").partition("\n")
     return bytes.fromhex(head.split()[2]), CASE.findall(rest)
@@ -134,7 +135,8 @@ class Trees(unittest.TestCase):
         )
 
     def test_places_beyond_64_bits(self):
-        """Glue that balances but for one scaled point: each scaled point of stretch is set to the width of the box."""
+        """Glue that balances but for one scaled point: each scaled point of stretch is set to the
+        width of the box."""
         amount, count, size = pt(16383), 3000, pt(1000)
         script = (
             f"hbox to {size}sp into 0\n"
@@ -177,7 +179,8 @@ class Sizes(unittest.TestCase):
             self.assertEqual(boxglue.points(box.overhang), f"{overhang}pt", name)
 
     def test_depth_and_breadth(self):
-        """As \\showboxdepth and \\showboxbreadth of TeX: what is too deep is `[]`, and what is too much is `etc.`."""
+        """As \\showboxdepth and \\showboxbreadth of TeX: what is too deep is `[]`, and what is too
+        much is `etc.`."""
         box = inspected("vbox into 0\nhbox\nkern 1pt\nkern 2pt\nkern 3pt\nend\nhbox\nend\nend\n")
         self.assertEqual(box.show(depth=0), "\\vbox(12.0+0.0)x6.0 []")
         lines = [
@@ -220,7 +223,8 @@ class Sizes(unittest.TestCase):
 
 class Paragraphs(unittest.TestCase):
     def test_ends_of_lines(self):
-        """The ends of all lines of a paragraph of 4,000 words, from one call, are those that the marks of the page show."""
+        """The ends of all lines of a paragraph of 4,000 words, from one call, are those that the
+        marks of the page show."""
         numbers = random.Random(4000)
         words = [
             "".join(chr(numbers.randrange(97, 123)) for _ in range(numbers.randrange(1, 11)))

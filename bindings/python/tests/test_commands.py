@@ -1,4 +1,5 @@
-"""Tests of the typed calls of a job. What is wanted is from docs/COMMANDS.md and docs/FORMATS.md, or what the same script gives."""
+"""Tests of the typed calls of a job. What is wanted is from docs/COMMANDS.md and docs/FORMATS.md,
+or what the same script gives."""
 import re
 import shutil
 import struct
@@ -454,7 +455,8 @@ class Registers(unittest.TestCase):
 
 
 class Exceptions(unittest.TestCase):
-    """An exception in each kind of list: no `end` is sent, and typed calls raise until `recover`."""
+    """An exception in each kind of list: no `end` is sent, and typed calls raise until
+    `recover`."""
 
     def broken(self, open_list):
         job = job_of(self)
@@ -694,7 +696,8 @@ class Steps:
 
 class Encodings(unittest.TestCase):
     def test_metrics_of_a_file(self):
-        """A metric file of two characters, `a` and `b`, of half and a quarter of the design size, with a kern of -1/8 between them (TFtoPL, 8 to 13)."""
+        """A metric file of two characters, `a` and `b`, of half and a quarter of the design size,
+        with a kern of -1/8 between them (TFtoPL, 8 to 13)."""
         counts = struct.pack(">12H", 18, 2, 97, 98, 3, 1, 1, 1, 1, 1, 0, 0)
         words = (0, 10 << 20, 0x01000100, 0x02000000, 0, 1 << 19, 1 << 18, 0, 0, 0, 0x80628000)
         metrics = (
@@ -760,7 +763,8 @@ class Encodings(unittest.TestCase):
             self.assertEqual(caught.exception.place, place)
 
     def test_kerns_between_parts(self):
-        """By docs/FORMATS.md, section 10: V and é have a kern, f and i a ligature, that and ü a kern, and ü and a hyphen a ligature."""
+        """By docs/FORMATS.md, section 10: V and é have a kern, f and i a ligature, that and ü a
+        kern, and ü and a hyphen a ligature."""
         metrics = Steps(
             {
                 (86, 233): Step(False, -7),
@@ -822,7 +826,8 @@ class Encodings(unittest.TestCase):
             names.setdefault(
                 name, "".join(chr(int(it, 16)) for it in codes.split() if not line.startswith("#"))
             )
-        # The list names some characters in its own way: TeX's letters, an accent that is not a quote here, and characters that Unicode's table does not name.
+        # The list names some characters in its own way: TeX's letters, an accent that is not a
+        # quote here, and characters that Unicode's table does not name.
         names |= {
             "Delta": "Δ",
             "Omega": "Ω",

@@ -1,4 +1,5 @@
-"""Tests of dimensions as texts: the tables of docs/FORMATS.md, section 1, and the library's own reading. Its printing is compared by `tests/run library_python`."""
+"""Tests of dimensions as texts: the tables of docs/FORMATS.md, section 1, and the library's own
+reading. Its printing is compared by `tests/run library_python`."""
 import random
 import unittest
 

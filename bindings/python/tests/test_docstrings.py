@@ -1,4 +1,5 @@
-"""Tests of the docstrings: what `help` says of each call, and the calls that `help(boxglue)` names first."""
+"""Tests of the docstrings: what `help` says of each call, and the calls that `help(boxglue)` names
+first."""
 
 import inspect
 import re

@@ -8,7 +8,8 @@ import boxglue
 
 from .samples import TEXT, plain, refusal_of
 
-# A stand-in for TeX's program: it knows two fonts, and writes down the names that it is asked for, a line each time.
+# A stand-in for TeX's program: it knows two fonts, and writes down the names that it is asked for,
+# a line each time.
 KPSEWHICH = """#!/bin/sh
 echo "$@" >> "$(dirname "$0")/asked"
 for it; do case "$it" in far.tfm | farther.tfm) echo "$(dirname "$0")/other/$it" ;; esac; done
@@ -74,7 +75,8 @@ class Folders(unittest.TestCase):
         self.assertEqual(self.folder._files.keys(), {"plain"})
 
     def test_refused_files(self):
-        """A file is refused as without the folder, also where its fonts alone are refused otherwise: here for a page, and else for a definition after it."""
+        """A file is refused as without the folder, also where its fonts alone are refused
+        otherwise: here for a page, and else for a definition after it."""
         dvi = bytearray(boxglue.run(TEXT, plain()).check().dvi)
         dvi[dvi.index(b"\xf8") + 29] = dvi[dvi.index(b"\x8b") + 45] = 250
         self.assertNotEqual(

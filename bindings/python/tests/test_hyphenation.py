@@ -1,4 +1,5 @@
-"""Tests of paragraphs with hyphens. Words and their places are TeX's (TeX: The Program, §891 to 931); the lines of 600 paragraphs are compared in tests/run."""
+"""Tests of paragraphs with hyphens. Words and their places are TeX's (TeX: The Program, §891 to
+931); the lines of 600 paragraphs are compared in tests/run."""
 import os
 import sys
 import tempfile
@@ -52,7 +53,8 @@ class Paragraphs(unittest.TestCase):
         self.job.set(hsize=WIDE, pretolerance=-1, tolerance=10000)
 
     def lines(self, pieces, hyphenpenalty=FORCED, exhyphenpenalty=FORCED, **words):
-        """The texts of the lines of a paragraph, which is broken at each place within words that is offered, and by its width at no other."""
+        """The texts of the lines of a paragraph, which is broken at each place within words that is
+        offered, and by its width at no other."""
         with self.job.vbox(into=0):
             self.done = self.job.paragraph(
                 pieces, hyphenpenalty=hyphenpenalty, exhyphenpenalty=exhyphenpenalty, **words
@@ -82,7 +84,8 @@ class Rules(unittest.TestCase):
         return "-".join(word[a:b] for a, b in zip(ends, ends[1:]))
 
     def test_values(self):
-        """The greatest value counts, and an odd one is a place (Appendix H of The TeXbook, whose example this is)."""
+        """The greatest value counts, and an odd one is a place (Appendix H of The TeXbook, whose
+        example this is)."""
         patterns = Patterns("hy3ph he2n hena4 hen5at 1na n2at 1tio 2io o2n".split())
         self.assertEqual(self.parts(patterns, "hyphenation"), "hy-phen-ation")
         self.assertEqual(self.parts(patterns, "Hyphenation"), "Hy-phen-ation")
@@ -128,7 +131,8 @@ class Rules(unittest.TestCase):
         self.assertEqual(Patterns(["1é"])("NÉÉÉÉN"), (2, 3))
 
     def test_files(self):
-        """The form of hyphen.tex, and that of hyph-de-1996.tex with the least numbers of letters in its comments."""
+        """The form of hyphen.tex, and that of hyph-de-1996.tex with the least numbers of letters in
+        its comments."""
         with tempfile.TemporaryDirectory() as folder:
             path = f"{folder}/hyph-xx.tex"
             with open(path, "w", encoding="utf-8") as it:
@@ -204,7 +208,8 @@ class Words(Paragraphs):
         self.assertEqual(self.done.places, ())
 
     def test_neighbours_of_words(self):
-        """Kerns, penalties, specials and glue let the word before them be hyphenated, and specials stand before one; boxes, rules and discretionaries do not (§896, §899)."""
+        """Kerns, penalties, specials and glue let the word before them be hyphenated, and specials
+        stand before one; boxes, rules and discretionaries do not (§896, §899)."""
         allowed = (
             lambda it: it.kern(1),
             lambda it: it.penalty(10000),
@@ -243,11 +248,13 @@ class Words(Paragraphs):
         self.assertEqual(self.job._state.current.slot, 0)
 
     def test_missing_characters(self):
-        """A word with a character that the font lacks is not hyphenated. The font plain has no ligatures, and letters no braces but dashes."""
+        """A word with a character that the font lacks is not hyphenated. The font plain has no
+        ligatures, and letters no braces but dashes."""
         self.assertEqual(self.words("x ab~cd"), "x abcd")
 
     def test_encodings(self):
-        """A text is in characters, and the font in codes: here é is a ligature of f and i, by its code, and the rule sees é."""
+        """A text is in characters, and the font in codes: here é is a ligature of f and i, by its
+        code, and the rule sees é."""
         encoding = {**boxglue.OT1, "é": 12}
         self.assertEqual(
             self.words("x aéb cé", after("aé", "c"), encoding=encoding), "x afi-b c-fi"
@@ -270,7 +277,8 @@ class Ligatures(Paragraphs):
         self.assertEqual(self.places("affa", 1, 2), "a-f-fa")
 
     def test_widths(self):
-        """Parts and hyphens have the widths of the font: ligatures, kerns, and kerns with a hyphen."""
+        """Parts and hyphens have the widths of the font: ligatures, kerns, and kerns with a
+        hyphen."""
         for word, at in (
             ("office", 2),
             ("waver", 2),
@@ -285,7 +293,8 @@ class Ligatures(Paragraphs):
             self.assertEqual(trial.lines()[0].natural_size, whole, word)
 
     def boxes(self, word, at):
-        """The widths of the lines of a word that is broken, and in register 0 the word that is not."""
+        """The widths of the lines of a word that is broken, and in register 0 the word that is
+        not."""
         with self.job.vbox(into=1):
             self.job.paragraph(word, hyphens=lambda _: [at], first_word=True, hyphenpenalty=FORCED)
         found = [it.natural_size for it in self.job.inspect(1).lines()]
@@ -301,7 +310,8 @@ class Ligatures(Paragraphs):
         return box.width
 
     def test_kern_after_a_hyphen(self):
-        """It stays at the beginning of the line, as in TeX (§879). The font has one between - and T."""
+        """It stays at the beginning of the line, as in TeX (§879). The font has one between - and
+        T."""
         with self.job.vbox(into=0):
             self.job.paragraph("a-To", exhyphenpenalty=FORCED)
         kern = self.width("-T") - self.width("-") - self.width("T")
@@ -332,7 +342,8 @@ class Discretionaries(Paragraphs):
         )
 
     def test_where_it_stands(self):
-        """After glue, before it, beside another one, and alone. Before glue one needs a part for the next line."""
+        """After glue, before it, beside another one, and alone. Before glue one needs a part for
+        the next line."""
         self.assertEqual(self.lines(["a ", Discretionary("b-", "c", "d"), "e"]), ["a b-", "ce"])
         self.assertEqual(self.lines(["a", Discretionary(), " b"]), ["a b"])
         self.assertEqual(self.lines(["a", Discretionary("", "c", "d"), " b"]), ["a", "c b"])
@@ -351,7 +362,8 @@ class Discretionaries(Paragraphs):
         )
 
     def test_penalties(self):
-        """The square of its penalty is in the demerits: one of its own, or as it has a part before the break or not."""
+        """The square of its penalty is in the demerits: one of its own, or as it has a part before
+        the break or not."""
         for piece, penalty in (
             (Discretionary(), 40),
             (Discretionary(""), 30),
@@ -383,7 +395,8 @@ class Jobs(Paragraphs):
         self.assertEqual(len(self.job.inspect(0).lines()), done.lines + par.lines)
 
     def test_first_pass(self):
-        """Where the first pass decides, no place of the rule is tried, even if it would cost less."""
+        """Where the first pass decides, no place of the rule is tried, even if it would cost
+        less."""
         self.job.set(hsize=pt(62), pretolerance=10000)
         lines = self.lines("aaaa bbbbbb cccc dddd", hyphens=everywhere)
         self.assertEqual(
@@ -408,7 +421,8 @@ class Jobs(Paragraphs):
         self.assertEqual(self.lines(" "), [""])
 
     def test_many_places(self):
-        """8,192 legal places are allowed, the end among them. Above, no place of the rule is offered."""
+        """8,192 legal places are allowed, the end among them. Above, no place of the rule is
+        offered."""
         text = "a " + "bc " * 4095 + "d"
         with warnings.catch_warnings():
             warnings.simplefilter("error")
@@ -418,7 +432,8 @@ class Jobs(Paragraphs):
         self.assertEqual((caught.filename, self.done.places), (__file__, ()))
 
     def test_many_items(self):
-        """The marks of places count as items. If the list becomes too long, no place of the rule is offered."""
+        """The marks of places count as items. If the list becomes too long, no place of the rule is
+        offered."""
         word = "b" * 30
         with self.assertWarnsRegex(UserWarning, "too many items"):
             self.lines(
@@ -461,7 +476,8 @@ class Jobs(Paragraphs):
         self.assertEqual(self.lines("a b"), ["a b"])
 
     def test_refused_items(self):
-        """Nothing is added where an item is refused; if the end of a list is, its job has to be recovered."""
+        """Nothing is added where an item is refused; if the end of a list is, its job has to be
+        recovered."""
         with self.job.vbox(into=1) as box:
             with self.assertRaises(Refused) as caught:
                 self.job.paragraph(
@@ -481,7 +497,8 @@ class Jobs(Paragraphs):
             self.assertRaisesRegex(BoxglueError, "metrics", job.paragraph, "a")
 
     def test_first_piece_that_is_a_font(self):
-        """No other font has to be current, and after the paragraph it is the current one, as after `use`."""
+        """No other font has to be current, and after the paragraph it is the current one, as after
+        `use`."""
         for text in ("a-b fi", "Wafer"):
             found = []
             for is_piece in (False, True):

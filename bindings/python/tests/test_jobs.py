@@ -179,7 +179,8 @@ class Jobs(unittest.TestCase):
             self.assertEqual(job.commands("void 0\n").answers_text, "801: ok\n")
 
 
-# A program that ends while a daemon thread is inside a call on a job. The library is a stand-in whose call waits, and which says what is freed meanwhile.
+# A program that ends while a daemon thread is inside a call on a job. The library is a stand-in
+# whose call waits, and which says what is freed meanwhile.
 CLOSES = """
 import boxglue, signal
 job = boxglue.Job()
@@ -227,7 +228,8 @@ class Released:
 
 
 def cuts_off(count):
-    """A profile function by which KeyboardInterrupt comes after so many calls of functions in C by the package."""
+    """A profile function by which KeyboardInterrupt comes after so many calls of functions in C by
+    the package."""
     left = iter(range(count, -1, -1))
 
     def profile(frame, event, _called):
@@ -243,7 +245,8 @@ def cuts_off(count):
 
 class Ends(unittest.TestCase):
     def test_cut_off_after_a_call(self):
-        """The replies to a call that was cut off before they were taken are not those of the next call."""
+        """The replies to a call that was cut off before they were taken are not those of the next
+        call."""
         for error in (KeyboardInterrupt, MemoryError):
             with boxglue.Job() as job:
                 with mock.patch.object(_job, "replies_of", side_effect=error):
@@ -280,7 +283,8 @@ class Ends(unittest.TestCase):
             self.assertEqual((b"".join(taken), job.take()), (wanted, b""))
 
     def test_bytes_that_were_cut_off_at_the_end(self):
-        """Bytes are in the next call, also where the one that had them all was cut off before it returned them."""
+        """Bytes are in the next call, also where the one that had them all was cut off before it
+        returned them."""
         wanted = boxglue.run(RULE).check().dvi
         with boxglue.Job() as job:
             job.commands(RULE).check()
@@ -290,7 +294,8 @@ class Ends(unittest.TestCase):
                 self.assertEqual((job.take(), job.take()), (wanted, b""))
 
     def test_cut_off_anywhere(self):
-        """A call that is cut off at any place hands its bytes over in the next one, and none twice."""
+        """A call that is cut off at any place hands its bytes over in the next one, and none
+        twice."""
         wanted, count, taken = boxglue.run(RULE).check().dvi, 0, b""
         while not taken:
             with boxglue.Job() as job:

@@ -9,7 +9,8 @@ from boxglue import _library
 
 
 class Versions(unittest.TestCase):
-    """What is said of a library that is not the one of this package: a stand-in with its version, and without any other call."""
+    """What is said of a library that is not the one of this package: a stand-in with its version,
+    and without any other call."""
 
     def message(self, number):
         version = lambda: number

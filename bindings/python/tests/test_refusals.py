@@ -13,7 +13,8 @@ from .samples import RULE, TEXT, plain, refusal_of
 
 
 def refused_in_a_worker(script):
-    """What a worker of a pool does: `check` raises there, and the refusal goes to the other process."""
+    """What a worker of a pool does: `check` raises there, and the refusal goes to the other
+    process."""
     boxglue.run(script).check()
 
 
@@ -94,7 +95,8 @@ class OpenLists(unittest.TestCase):
         self.assertEqual((bad.line, bad.command), (2, "kern 12px"))
 
     def test_refused_openings_and_ends(self):
-        """What is refused opens and ends nothing: a par without a list, a hbox too deep, and an end that is refused."""
+        """What is refused opens and ends nothing: a par without a list, a hbox too deep, and an end
+        that is refused."""
         script = (
             "par\nhbox\nend\n"
             + "hbox into 0\n" * 64
@@ -107,7 +109,8 @@ class OpenLists(unittest.TestCase):
         self.assertEqual(self.lists(last), [("hbox", 134)])
 
     def test_jobs(self):
-        """Pieces and typed calls on one job: lines are counted on, bad pieces do not count, and what a batch opens has its callers."""
+        """Pieces and typed calls on one job: lines are counted on, bad pieces do not count, and
+        what a batch opens has its callers."""
         with boxglue.Job() as job:
             job.commands("% a\nvbox into 3\r\n").check()
             self.assertFalse(job.commands("hbox\nfoo\n").accepted)

@@ -28,8 +28,9 @@ from .samples import EXAMPLES, plain
 
 PT = 65536
 WIDTH = 2 * (550498 * 10 * PT >> 20)
-# A script with each kind of reply: its lines, and for each its reply and the text of that, from docs/COMMANDS.md, sections 3 and 4, and docs/FORMATS.md. The
-# characters `a` and `b` of the font `plain` are 550498 * 2^-20 of its size wide, cut to scaled points, and `b` is 11/16 of it high.
+# A script with each kind of reply: its lines, and for each its reply and the text of that, from
+# docs/COMMANDS.md, sections 3 and 4, and docs/FORMATS.md. The characters `a` and `b` of the font
+# `plain` are 550498 * 2^-20 of its size wide, cut to scaled points, and `b` is 11/16 of it high.
 LINES = [
     ("font 0 plain at 10pt", Ok(1), "ok"),
     ("use 0", Ok(2), "ok"),
@@ -264,7 +265,8 @@ class Refusals(unittest.TestCase):
 
     def test_metric_files(self):
         good = plain()["plain"]
-        # A byte of the number of header words, of the design size, of the first character, and of the last parameter but three.
+        # A byte of the number of header words, of the design size, of the first character, and of
+        # the last parameter but three.
         causes = {
             "Counts": (3, 1),
             "DesignSize": (28, 128),

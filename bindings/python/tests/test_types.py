@@ -153,8 +153,9 @@ class Types(unittest.TestCase):
             self.assertTrue(typing.get_type_hints(kind))
 
     def test_time_of_the_import(self):
-        """The import takes at most 0.4 of the processor's time that Python itself took to start before it: the least of some runs of each. Both are measured within one
-        process, since what a loaded machine adds to two whole runs is more than the import."""
+        """The import takes at most 0.4 of the processor's time that Python itself took to start
+        before it: the least of some runs of each. Both are measured within one process, since what
+        a loaded machine adds to two whole runs is more than the import."""
         code = "import time; start = time.process_time(); import boxglue; print(start, time.process_time() - start)"
         with tempfile.TemporaryDirectory(prefix="boxglue-types-") as room:
             env = {
@@ -180,7 +181,8 @@ class Types(unittest.TestCase):
         self.assertLess(whole, 0.4 * start)
 
     def test_modules_of_the_import(self):
-        """The import loads no other module than the package itself, and what Python is started with has not."""
+        """The import loads no other module than the package itself, and what Python is started with
+        has not."""
         code = "import sys; before = {*sys.modules}; import boxglue; print(*sorted({*sys.modules} - before))"
         env = {**os.environ, "PYTHONPATH": os.path.dirname(os.path.dirname(boxglue.__file__))}
         done = subprocess.run(

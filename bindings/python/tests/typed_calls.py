@@ -1,6 +1,8 @@
-"""Makes random documents by the typed calls of bindings/python and by their scripts, and compares the replies and the files: typed_calls.py DOCUMENTS METRICS [batch LEAST].
+"""Makes random documents by the typed calls of bindings/python and by their scripts, and compares
+the replies and the files: typed_calls.py DOCUMENTS METRICS [batch LEAST].
 
-A batch makes the documents in which the opening and the end of no list are refused, LEAST at least: in others its lists are not those that the calls say."""
+A batch makes the documents in which the opening and the end of no list are refused, LEAST at least:
+in others its lists are not those that the calls say."""
 import sys
 from fractions import Fraction
 
@@ -106,7 +108,8 @@ def can_be_said(ran):
 
 
 def is_unseen(reply, call, make):
-    """Whether a call that returns no reply may have this one. A batch gives no handle for a font."""
+    """Whether a call that returns no reply may have this one. A batch gives no handle for a
+    font."""
     return isinstance(reply, boxglue.Ok) or make is replies_of_batch and call.startswith("font ")
 
 

@@ -1,7 +1,9 @@
-"""Sets the paragraphs of tests/models/hyphen_texts.py by the typed calls of bindings/python: library_lines.py ROWS.
+"""Sets the paragraphs of tests/models/hyphen_texts.py by the typed calls of bindings/python:
+library_lines.py ROWS.
 
-ROWS is as tests/cases/hyphens/lines.txt. The settings that TeX decides must have TeX's lines and demerits, and the demerits of the last setting must be those of the first,
-less the squares of the penalties at the places that were taken. Prints what differs, and how many settings agree."""
+ROWS is as tests/cases/hyphens/lines.txt. The settings that TeX decides must have TeX's lines and
+demerits, and the demerits of the last setting must be those of the first, less the squares of the
+penalties at the places that were taken. Prints what differs, and how many settings agree."""
 import os
 import sys
 

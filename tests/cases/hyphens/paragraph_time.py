@@ -1,5 +1,6 @@
-"""Prints how many milliseconds of the processor a paragraph of 400 words takes in Python, without the library's calls, in a job that never saw the words, and in one
-that did; and how many a loop of Python takes, which tells how quick the processor is. Each is the least of several."""
+"""Prints how many milliseconds of the processor a paragraph of 400 words takes in Python, without
+the library's calls, in a job that never saw the words, and in one that did; and how many a loop of
+Python takes, which tells how quick the processor is. Each is the least of several."""
 import os
 import sys
 import time

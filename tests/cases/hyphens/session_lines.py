@@ -1,6 +1,8 @@
-"""Sets the paragraphs of tests/models/hyphen_texts.py by examples/layout/hyphens.py in a session: session_lines.py ROWS OUT.
+"""Sets the paragraphs of tests/models/hyphen_texts.py by examples/layout/hyphens.py in a session:
+session_lines.py ROWS OUT.
 
-ROWS is as tests/cases/hyphens/lines.txt, and the file OUT gets the pages; `boxglue` is on the path. Prints what differs from TeX's lines, and how many settings agree."""
+ROWS is as tests/cases/hyphens/lines.txt, and the file OUT gets the pages; `boxglue` is on the path.
+Prints what differs from TeX's lines, and how many settings agree."""
 import os
 import sys
 

@@ -1,4 +1,5 @@
-"""Compares the places of words by hyphen.tex: those of the package, and those that \\showhyphens of plain TeX prints. Prints what differs, and how many words agree."""
+"""Compares the places of words by hyphen.tex: those of the package, and those that \\showhyphens of
+plain TeX prints. Prints what differs, and how many words agree."""
 import os
 import re
 import subprocess
@@ -22,7 +23,8 @@ LIMIT = 120
 
 
 def words_by_tex(words):
-    """Each word with its hyphens, from TeX's log. A word stands on a page of its own, so that none is lost."""
+    """Each word with its hyphens, from TeX's log. A word stands on a page of its own, so that none
+    is lost."""
     lines = "\n".join(f"\\showhyphens{{{it}}}" for it in words)
     with tempfile.TemporaryDirectory(prefix="boxglue-words-") as room:
         with open(f"{room}/words.tex", "w", encoding="ascii") as it:

@@ -1,5 +1,6 @@
-"""The DVI and metric files of crates/rows_damaged/stdin: the lines of the file stdout there for each changed byte and each beginning, made again by
-the readers of the tests. It runs no program, and leaves out the script, whose answers need the whole machine."""
+"""The DVI and metric files of crates/rows_damaged/stdin: the lines of the file stdout there for
+each changed byte and each beginning, made again by the readers of the tests. It runs no program,
+and leaves out the script, whose answers need the whole machine."""
 import re
 from dataclasses import dataclass, field
 from functools import partial
@@ -25,7 +26,8 @@ OFFSET_BASIS, PRIME, MASK = 0xCBF29CE484222325, 0x100000001B3, (1 << 64) - 1
 
 @dataclass
 class Sample:
-    """A good file: its kind, its bytes, the metric files for it, and the lines that ask for changes."""
+    """A good file: its kind, its bytes, the metric files for it, and the lines that ask for
+    changes."""
 
     kind: str
     data: bytes = b""

@@ -1,7 +1,8 @@
-"""The cases of crates/rows_scripts on devices that may fail: their texts in its file stdout, against a model of these devices and the bytes of the tests'
-own writer. It runs no program.
+"""The cases of crates/rows_scripts on devices that may fail: their texts in its file stdout,
+against a model of these devices and the bytes of the tests' own writer. It runs no program.
 
-A `ship` sends the bytes of its page in one text, which the device takes piece by piece; the end of the file is another text."""
+A `ship` sends the bytes of its page in one text, which the device takes piece by piece; the end of
+the file is another text."""
 import os
 import re
 from dataclasses import dataclass

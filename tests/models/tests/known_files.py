@@ -1,4 +1,5 @@
-"""The DVI writer of the tests, compared with files and bodies whose bytes are known, as those of docs/FORMATS.md, section 8. It runs no program."""
+"""The DVI writer of the tests, compared with files and bodies whose bytes are known, as those of
+docs/FORMATS.md, section 8. It runs no program."""
 from models.dvi_writer import Font, Page, Registers, down, dvi_file, pruned, put_rule, right, select
 from models.dvi_writer import set_char, set_rule, special, spelled
 
@@ -10,7 +11,8 @@ ONE_RULE = [down(PT), RULE]
 C, B = set_char(99), set_char(98)
 AT_10PT, AT_20PT = Font(0, b"tiny"), Font(1, b"tiny", 20 * PT)
 
-# For a file: its pages, the greatest height plus depth and width; and the expected bytes by their places, place of post, and length.
+# For a file: its pages, the greatest height plus depth and width; and the expected bytes by their
+# places, place of post, and length.
 FILES = {
     "one_rule": (
         [Page(ONE_RULE)],
@@ -158,7 +160,8 @@ FILES = {
 
 
 def moves(text):
-    """A body from a text: a digit is a movement to the right, `c` a glyph, and parentheses are a group."""
+    """A body from a text: a digit is a movement to the right, `c` a glyph, and parentheses are a
+    group."""
     stack = [[]]
     for it in text:
         if it == "(":

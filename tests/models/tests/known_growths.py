@@ -1,4 +1,5 @@
-"""The kinds of runs with a refused growth (growth_kinds.py), on answers that are written here, each with its kind or none. It runs no program."""
+"""The kinds of runs with a refused growth (growth_kinds.py), on answers that are written here, each
+with its kind or none. It runs no program."""
 from functools import partial
 
 from models.growth_kinds import ALONE, FAILED, OVER, WANTS_MEMORY, Answered, Ended, Wrong, kind_of
