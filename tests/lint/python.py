@@ -1,21 +1,31 @@
-"""The Python of the tests and of bench/: what pyflakes and mypy say of it. Files without a suffix are Python where their first line says so."""
+"""All Python of the tree: its layout by black, and its columns. What pyflakes and mypy say of the
+Python of the tests and of bench/. Files without a suffix are Python where their first line says so.
+"""
+import ast
 import glob
 import os
 from functools import partial
 
+from common.files import read
 from common.outcome import need
 from common.running import finished
 from common.shared import own_folder
 from common.texts import last_lines
 
-TITLE = "the Python of tests/ and bench/: no fault by pyflakes, none by mypy"
+TITLE = (
+    "all Python is laid out by black in 100 columns; "
+    "the Python of tests/ and bench/: no fault by pyflakes, none by mypy"
+)
 TRIES = False
 FOLDERS = {
-    "tests": "tests tests/cases/hyphens tests/common tests/models tests/models/tests tests/lint tests/parts tests/clients".split(),
+    "tests": """tests tests/cases/hyphens tests/common tests/models tests/models/tests tests/lint
+        tests/parts tests/clients""".split(),
     "bench": "bench bench/trials".split(),
 }
 # Where the modules are that they import, by their names without a folder.
 PATH = "tests . bench bench/trials bindings/python examples/session examples/layout".split()
+# Black parts no text, so a line may be longer for one that needs more columns than these.
+MOST_COLUMNS, LONG_TEXT = 100, 60
 
 
 def is_python(path):
@@ -28,12 +38,41 @@ def is_python(path):
 
 def files(root, folders):
     """The paths of the Python files of folders, below the root."""
-    return [
-        os.path.relpath(path, root)
-        for folder in folders
-        for path in sorted(glob.glob(f"{root}/{folder}/*"))
-        if is_python(path)
-    ]
+    paths = [path for folder in folders for path in sorted(glob.glob(f"{root}/{folder}/*"))]
+    return [os.path.relpath(path, root) for path in paths if is_python(path)]
+
+
+def tracked(root):
+    """The paths of all Python that git tracks."""
+    paths = finished(["git", "ls-files", "-z"], cwd=root, text=True, check=True).stdout
+    return [it for it in paths.split("\0") if is_python(f"{root}/{it}")]
+
+
+def layout(root):
+    """The files that black would write anew."""
+    need("black")
+    ran = finished(["black", "--check", "-l", str(MOST_COLUMNS), *tracked(root)], cwd=root)
+    return last_lines(ran.stderr, 5) if ran.returncode else None
+
+
+def lines_of_texts(tree):
+    """The numbers of the lines with a long text or one of several lines, but for docstrings."""
+    bare = {it.value for it in ast.walk(tree) if isinstance(it, ast.Expr)}
+    for it in ast.walk(tree):
+        if isinstance(it, (ast.Constant, ast.JoinedStr)) and it not in bare:
+            if it.lineno < it.end_lineno or it.end_col_offset - it.col_offset > LONG_TEXT:
+                yield from range(it.lineno, it.end_lineno + 1)
+
+
+def columns(root):
+    """Lines above 100 columns, but for those with a long text."""
+    wrong = []
+    for path in tracked(root):
+        text = read(f"{root}/{path}")
+        long = {n for n, it in enumerate(text.split("\n"), 1) if len(it) > MOST_COLUMNS}
+        if long:
+            wrong += [f"{path}:{n}" for n in sorted(long - {*lines_of_texts(ast.parse(text))})]
+    return f"lines above {MOST_COLUMNS} columns: {', '.join(wrong)}" if wrong else None
 
 
 def faults(root, folders):
@@ -46,13 +85,10 @@ def faults(root, folders):
 def types(root, folders):
     """What mypy says."""
     need("mypy")
-    words = [
-        "mypy",
-        f"--cache-dir={own_folder()}/mypy",
-        *"--scripts-are-modules --explicit-package-bases --ignore-missing-imports --follow-imports=silent".split(),
-    ]
+    words = """--scripts-are-modules --explicit-package-bases --ignore-missing-imports
+        --follow-imports=silent""".split()
     ran = finished(
-        [*words, *files(root, folders)],
+        ["mypy", f"--cache-dir={own_folder()}/mypy", *words, *files(root, folders)],
         cwd=root,
         env={**os.environ, "MYPYPATH": ":".join(f"{root}/{it}" for it in PATH)},
     )
@@ -60,7 +96,9 @@ def types(root, folders):
 
 
 def cases(_programs, root):
-    """A case for each tool and folder."""
+    """The cases, and one for each tool and folder."""
+    yield "layout", partial(layout, root)
+    yield "columns", partial(columns, root)
     for name, folders in FOLDERS.items():
         yield f"faults of {name}", partial(faults, root, folders)
         yield f"types of {name}", partial(types, root, folders)
