@@ -199,6 +199,20 @@ LABELS = (
 )
 
 
+def item_bars(svg, figures_of, kinds, rows, measures):
+    """The rows of the chart: each a label and a bar for each kind of figure."""
+    left, top, each, wide, most = measures
+    for place, (it, label) in enumerate(rows):
+        y = top + place * each
+        svg.text(left - 10, y + 24, "%s: %s" % (label.replace(":", ","), it[1]), "end")
+        for turn, (name, _) in enumerate(kinds):
+            value = figures_of[it, name]
+            if value is not None:
+                long = min(value, most) / most * wide
+                svg.bar(left, y + turn * 14, long, 11, COLOURS[name])
+                svg.text(left + long + 5, y + turn * 14 + 10, "%.2f" % value, colour=FAINT, size=10)
+
+
 def draw_items(figures, out):
     rows = [
         ((case, peer), label)
@@ -218,13 +232,8 @@ def draw_items(figures, out):
     most = max(1.2, min(max(it for it in found.values() if it is not None), 4))
     height = top + each * len(rows) + 50
     svg = Svg(800, height, "boxglue beside its peers")
-    svg.text(
-        20,
-        26,
-        "boxglue as a ratio to the program that is named (less is better)",
-        size=15,
-        weight="bold",
-    )
+    title = "boxglue as a ratio to the program that is named (less is better)"
+    svg.text(20, 26, title, size=15, weight="bold")
     for place, (name, _) in enumerate(kinds):
         svg.bar(left + place * 120, 38, 12, 12, COLOURS[name])
         svg.text(left + 18 + place * 120, 48, name)
@@ -234,15 +243,7 @@ def draw_items(figures, out):
         svg.line(x, top - 8, x, bottom)
         svg.text(x, bottom + 16, "%g" % mark, "middle", FAINT, 11)
     svg.line(left + wide / most, top - 8, left + wide / most, bottom, INK, 1.5)
-    for place, (it, label) in enumerate(rows):
-        y = top + place * each
-        svg.text(left - 10, y + 24, "%s: %s" % (label.replace(":", ","), it[1]), "end")
-        for turn, (name, _) in enumerate(kinds):
-            value = found[it, name]
-            if value is not None:
-                long = min(value, most) / most * wide
-                svg.bar(left, y + turn * 14, long, 11, COLOURS[name])
-                svg.text(left + long + 5, y + turn * 14 + 10, "%.2f" % value, colour=FAINT, size=10)
+    item_bars(svg, found, kinds, rows, (left, top, each, wide, most))
     svg.text(20, height - 10, figures.notes[0] if figures.notes else "", colour=FAINT, size=10)
     svg.write(os.path.join(out, "speed_items.svg"))
 

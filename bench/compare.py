@@ -84,36 +84,31 @@ def compare(rooms, inputs, kept):
     return wrong, found
 
 
-def main():
-    parser = argparse.ArgumentParser(
-        description=__doc__, formatter_class=argparse.RawDescriptionHelpFormatter
-    )
+def words_of():
+    """Reads the command line."""
+    layout = argparse.RawDescriptionHelpFormatter
+    parser = argparse.ArgumentParser(description=__doc__, formatter_class=layout)
     parser.add_argument("programs", nargs=2, metavar="PROGRAM", help="the two programs")
-    parser.add_argument(
-        "--scripts", type=int, default=4000, metavar="N", help="how many documents (4,000)"
-    )
-    parser.add_argument(
-        "--hostile",
-        type=int,
-        default=0,
-        metavar="N",
-        help="how many inputs of bench/trials/hostile.py (0)",
-    )
-    parser.add_argument(
-        "--first", type=int, default=0, metavar="N", help="the number of the first (0)"
-    )
+    for name, default, about in (
+        ("--scripts", 4000, "how many documents (4,000)"),
+        ("--hostile", 0, "how many inputs of bench/trials/hostile.py (0)"),
+        ("--first", 0, "the number of the first (0)"),
+    ):
+        parser.add_argument(name, type=int, default=default, metavar="N", help=about)
     parser.add_argument("--keep", metavar="FOLDER", help="where the inputs go that differ")
-    words = parser.parse_args()
-    programs, kept = [os.path.abspath(it) for it in words.programs], words.keep and os.path.abspath(
-        words.keep
-    )
+    return parser.parse_args()
+
+
+def main():
+    words = words_of()
+    programs = [os.path.abspath(it) for it in words.programs]
+    kept = words.keep and os.path.abspath(words.keep)
     if not os.path.exists(CMR10):
         sys.exit("%s is not there: Debian's package texlive-base" % CMR10)
     with open(CMR10, "rb") as file:
         metrics = file.read()
-    with tempfile.TemporaryDirectory(
-        dir="/dev/shm" if os.path.isdir("/dev/shm") else None
-    ) as folder:
+    memory = "/dev/shm" if os.path.isdir("/dev/shm") else None
+    with tempfile.TemporaryDirectory(dir=memory) as folder:
         room = Room(programs[0], folder)
         rooms, good = (room, room.other(programs[1])), Good(room.typeset) if words.hostile else None
         documents = (

@@ -29,52 +29,40 @@ def counted(program, case, folder):
     return found.instructions / 1e6, found.misses / 1e6, checksum.hexdigest()
 
 
-def main():
-    parser = argparse.ArgumentParser(
-        description=__doc__, formatter_class=argparse.RawDescriptionHelpFormatter
-    )
+def words_of():
+    """Reads the command line."""
+    layout = argparse.RawDescriptionHelpFormatter
+    parser = argparse.ArgumentParser(description=__doc__, formatter_class=layout)
     parser.add_argument("programs", nargs="+", metavar="PROGRAM")
-    parser.add_argument(
-        "--items",
-        nargs="+",
-        metavar="ITEM",
-        default=[""],
-        help="cases whose names begin so, as places_345pt_100_1000",
-    )
-    parser.add_argument(
-        "--jobs", type=int, default=1, metavar="N", help="N runs at once; the counts are the same"
-    )
-    words = parser.parse_args()
+    begin = "cases whose names begin so, as places_345pt_100_1000"
+    parser.add_argument("--items", nargs="+", metavar="ITEM", default=[""], help=begin)
+    at_once = "N runs at once; the counts are the same"
+    parser.add_argument("--jobs", type=int, default=1, metavar="N", help=at_once)
+    return parser.parse_args()
+
+
+def cases_of(work, begins):
+    """The cases whose names begin with one of these texts."""
+    for item in ITEMS:
+        if any(item.startswith(it) or it.startswith(item) for it in begins):
+            for case in getattr(work, item)():
+                if any(case.name.startswith(it) for it in begins):
+                    yield case
+
+
+def main():
+    words = words_of()
     programs, differ = [os.path.abspath(it) for it in words.programs], []
     if not os.path.exists(CMR10):
         sys.exit("%s is not there: Debian's package texlive-base" % CMR10)
     with tempfile.TemporaryDirectory() as folder:
-        work = Work(programs[0], folder)
-        chosen = [
-            item
-            for item in ITEMS
-            if any(item.startswith(it) or it.startswith(item) for it in words.items)
-        ]
-        cases = [
-            case
-            for item in chosen
-            for case in getattr(work, item)()
-            if any(case.name.startswith(it) for it in words.items)
-        ]
+        cases = [*cases_of(Work(programs[0], folder), words.items)]
+        count_in = lambda case: (case, *(counted(it, case, folder) for it in programs))
         with ThreadPoolExecutor(words.jobs) as pool:
-            for case, *found in pool.map(
-                lambda case: (case, *(counted(program, case, folder) for program in programs)),
-                cases,
-            ):
-                print(
-                    "%-24s %s  %s"
-                    % (
-                        case.name,
-                        "".join("%10.2f" % it[0] for it in found),
-                        "".join("%10.3f" % it[1] for it in found),
-                    ),
-                    flush=True,
-                )
+            for case, *found in pool.map(count_in, cases):
+                instructions = "".join("%10.2f" % it[0] for it in found)
+                misses = "".join("%10.3f" % it[1] for it in found)
+                print("%-24s %s  %s" % (case.name, instructions, misses), flush=True)
                 if len({it[2] for it in found}) > 1:
                     differ.append(case.name)
                     print("  the files or answers differ", flush=True)

@@ -222,31 +222,33 @@ def missing(program, items):
         yield "%s is not there: Debian's package texlive-base" % CMR10
 
 
-def main():
-    parser = argparse.ArgumentParser(
-        description=__doc__, formatter_class=argparse.RawDescriptionHelpFormatter
-    )
-    parser.add_argument(
-        "--boxglue",
-        default=os.environ.get("BOXGLUE", os.path.join(HERE, "../crates/boxglue/out/boxglue")),
-    )
+def words_of():
+    """Reads the command line."""
+    layout = argparse.RawDescriptionHelpFormatter
+    parser = argparse.ArgumentParser(description=__doc__, formatter_class=layout)
+    built = os.path.join(HERE, "../crates/boxglue/out/boxglue")
+    parser.add_argument("--boxglue", default=os.environ.get("BOXGLUE", built))
     parser.add_argument("--instructions", action="store_true", help="count instructions too")
     parser.add_argument("--large", action="store_true", help=", ".join(LARGE))
     parser.add_argument("--data", metavar="FILE", help="where the figures go")
-    parser.add_argument(
-        "--note", help="a line for the head of the file of data: which build this is"
-    )
+    note = "a line for the head of the file of data: which build this is"
+    parser.add_argument("--note", help=note)
     parser.add_argument("items", nargs="*", metavar="ITEM", help=", ".join(ITEMS))
     words = parser.parse_args()
-    items = words.items or list(LARGE if words.large else ITEMS)
-    if not set(items) <= set(ITEMS + LARGE):
+    words.items = words.items or list(LARGE if words.large else ITEMS)
+    if not set(words.items) <= set(ITEMS + LARGE):
         parser.error("the items are " + ", ".join(ITEMS + LARGE))
-    lacks = list(missing(words.boxglue, items)) + (
-        ["valgrind is not there"] if words.instructions and not shutil.which("valgrind") else []
-    )
+    lacks = list(missing(words.boxglue, words.items))
+    if words.instructions and not shutil.which("valgrind"):
+        lacks.append("valgrind is not there")
     if lacks:
         sys.exit("\n".join(lacks))
-    lines, found, more = list(head(words)), {}, more_peers()
+    return words
+
+
+def main():
+    words, more = words_of(), more_peers()
+    lines, found, items = list(head(words)), {}, words.items
     for peer in sorted(PROBES.keys() - more):
         print("%s does not run here and is left out: Debian's package %s" % (peer, PACKAGES[peer]))
     with tempfile.TemporaryDirectory() as folder:
@@ -257,14 +259,8 @@ def main():
             print("%s: %s" % (item, getattr(work, item).__doc__), flush=True)
             for case in cases[item]:
                 rows = measured(work, case, counts.get(case.name))
-                print(
-                    "\n".join(
-                        [" " + case.name]
-                        + [row.shown() for row in rows]
-                        + [ratio(rows[0], it) for it in rows[1:]]
-                    ),
-                    flush=True,
-                )
+                shown = [row.shown() for row in rows] + [ratio(rows[0], it) for it in rows[1:]]
+                print("\n".join([" " + case.name, *shown]), flush=True)
                 lines += [row.data() for row in rows]
                 found[case.name] = rows[0]
             of_item = [found[case.name] for case in cases[item]]

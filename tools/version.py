@@ -34,7 +34,7 @@ PLACES = [
     ),
     *(
         ("bindings/wheel", rf"(?<={before}){DOTTED}")
-        for before in ("\nthe version ", "which sorts below ")
+        for before in ("a wheel of the version ", "which sorts below ")
     ),
     ("bindings/rust/Cargo.toml", rf'(?<=\nversion = "){DOTTED}'),
     ("bindings/rust/boxglue/Cargo.toml", rf'(?<="../boxglue-sys", version = "){DOTTED}'),

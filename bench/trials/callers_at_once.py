@@ -97,14 +97,12 @@ def runs_in_c(archive, folder, way, workers, rounds):
 
 def main():
     ways = [*(f"c:{it}" for it in C_WAYS), *(f"python:{it}" for it in PYTHON_WAYS)]
-    parser = argparse.ArgumentParser(
-        description=__doc__, formatter_class=argparse.RawDescriptionHelpFormatter
-    )
+    layout = argparse.RawDescriptionHelpFormatter
+    parser = argparse.ArgumentParser(description=__doc__, formatter_class=layout)
     parser.add_argument("--archive", required=True)
     parser.add_argument("--workers", type=int, default=8, help="how many threads or processes (8)")
-    parser.add_argument(
-        "--rounds", type=int, default=200, help="how often each makes all calls (200)"
-    )
+    often = "how often each makes all calls (200)"
+    parser.add_argument("--rounds", type=int, default=200, help=often)
     parser.add_argument("ways", nargs="*", metavar="WAY", help=", ".join(ways))
     words = parser.parse_args()
     for way in words.ways:
@@ -127,15 +125,8 @@ def main():
             if language == "c":
                 wells.append(runs_in_c(archive, folder, way, words.workers, words.rounds))
             else:
-                command = [
-                    sys.executable,
-                    f"{HERE}/python_at_once.py",
-                    way,
-                    str(words.workers),
-                    str(words.rounds),
-                    "script",
-                    "plain.tfm",
-                ]
+                sizes = [str(words.workers), str(words.rounds), "script", "plain.tfm"]
+                command = [sys.executable, f"{HERE}/python_at_once.py", way, *sizes]
                 wells.append(run(f"{way} in Python", command, env, folder))
     print("all were well" if all(wells) else "some went wrong")
     sys.exit(not all(wells))

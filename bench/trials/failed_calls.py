@@ -129,43 +129,19 @@ def check(task, closed, failed, ran, whole):
     runs, is_output = task in ("typeset", "session", "memory"), name == "write" and first == "1"
     require(status in (0, 1), "the status is %d, %r", status, errors[-200:])
     require(status or ran == whole, "the status is 0, and the run is another")
-    is_told = (
-        b"refused" in output
-        or is_output
-        or (name, first) == ("write", "2")
-        or 1 in closed
-        or 2 in closed
-    )
-    require(
-        not status or message and message[1] or not errors and is_told,
-        "status 1, %r, %r",
-        output[-100:],
-        errors,
-    )
+    is_told = b"refused" in output or is_output or (name, first) == ("write", "2")
+    is_told = is_told or 1 in closed or 2 in closed
+    says_why = message and message[1] or not errors and is_told
+    require(not status or says_why, "status 1, %r, %r", output[-100:], errors)
     require((whole[3] or b"").startswith(made or b""), "the file is no beginning")
-    require(
-        whole[1].startswith(output)
-        or runs
-        and same_answers(output, whole[1])
-        or not runs
-        and output == b"refused 1 OutOfMemory\n",
-        "the answers are %r",
-        output[-300:],
-    )
-    if (
-        name in ("read", "write")
-        and error == "EINTR"
-        or is_output
-        and error == "EAGAIN"
-        or task == "session"
-        and (name, first, error) == ("read", "0", "EAGAIN")
-    ):
-        require(
-            ran == whole,
-            "it is interrupted or has to wait, and the run is another: status %d, %r",
-            status,
-            errors,
-        )
+    is_refused = output == b"refused 1 OutOfMemory\n"
+    is_right = same_answers(output, whole[1]) if runs else is_refused
+    require(whole[1].startswith(output) or is_right, "the answers are %r", output[-300:])
+    is_interrupted = name in ("read", "write") and error == "EINTR"
+    waits = error == "EAGAIN" and (is_output or (task, name, first) == ("session", "read", "0"))
+    if is_interrupted or waits:
+        what = "it is interrupted or has to wait, and the run is another: status %d, %r"
+        require(ran == whole, what, status, errors)
     elif is_output:
         require(
             status == 1 and made == whole[3],

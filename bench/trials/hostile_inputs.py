@@ -280,6 +280,21 @@ def odd_word(chance):
     return chance.pick(ODD_PAIRS if way < 7 else ODD_PATHS).encode()
 
 
+def path_of(chance, runs):
+    """The path of the file of pages, which is odd now and then."""
+    if chance.one_in(3):
+        return chance.pick(ODD_PATHS)
+    return "/dev/full" if chance.one_in(100) else "out.dvi" if runs else "f.dvi"
+
+
+def paint_options(chance):
+    """The options of `paint`, some with odd numbers."""
+    good = ("1", "2", "30")
+    pick = lambda: chance.pick(ODD_NUMBERS) if chance.one_in(4) else chance.pick(good)
+    numbers = [pick().encode() for _ in range(4)]
+    return [b"--%s=%s" % it for it in zip((b"page", b"dpi", b"width", b"height"), numbers)]
+
+
 def words_input(chance, good):
     """Words that are mostly those of a good command line, with odd ones among them."""
     data, fonts = chance.pick(good.files)
@@ -293,26 +308,10 @@ def words_input(chance, good):
         it.encode()
         for it in ([] if way == "fonts" else font_words(good.fonts_of(script) if runs else fonts))
     ]
-    path = (
-        chance.pick(ODD_PATHS)
-        if chance.one_in(3)
-        else "/dev/full"
-        if chance.one_in(100)
-        else "out.dvi"
-        if runs
-        else "f.dvi"
-    ).encode()
+    path = path_of(chance, runs).encode()
     words = [way.encode(), path, *pairs]
     if way == "paint":
-        numbers = [
-            chance.pick(ODD_NUMBERS) if chance.one_in(4) else chance.pick(("1", "2", "30"))
-            for _ in range(4)
-        ]
-        options = [
-            b"--%s=%s" % it
-            for it in zip((b"page", b"dpi", b"width", b"height"), (it.encode() for it in numbers))
-        ]
-        words[1:1] = options
+        words[1:1] = paint_options(chance)
     if way == "any":
         words = []
     for _ in range(chance.pick((0, 0, 0, 1, 1, 2, 3))):

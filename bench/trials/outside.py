@@ -39,9 +39,9 @@ EXAMPLES = os.path.join(HERE, "../../examples")
 # Files of TeX.
 
 
-def documents(work):
-    """DVI files by tex and latex, those of TeX Live, and copies by dvicopy, which has the fonts of
-    virtual ones."""
+def made_documents(work):
+    """The names of DVI files by tex and latex, those of TeX Live, and copies by dvicopy, and of the
+    documents that are not made here."""
     made, missing = [], []
     for name, (program, text) in DOCUMENTS.items():
         # References are those of the run before, so a second run makes the file the same in a used
@@ -62,6 +62,13 @@ def documents(work):
     for name in list(made):
         work.run("dvicopy", name, "copy_" + name)
         made += ["copy_" + name] if os.path.exists(work.path("copy_" + name)) else []
+    return made, missing
+
+
+def documents(work):
+    """DVI files by tex and latex, those of TeX Live, and copies by dvicopy, which has the fonts of
+    virtual ones."""
+    made, missing = made_documents(work)
     tally, notes, without_metrics, defined = Tally(), [], [], 0
     for name in made:
         theirs = by_dvitype(name, work.folder)
@@ -105,6 +112,14 @@ def example_scripts():
     yield "book", inputs.book(200)[0]
 
 
+def said_by(words, text):
+    """What a reader warns of."""
+    if words[0] in ("gs", "pdftoppm"):
+        return [text] if text.strip() else []
+    bad = r"(?i)(?:%s)?[^\n]*(?:warning|error|missing|cannot|can't|unimplemented)[^\n]*"
+    return re.findall(bad % words[0], text)
+
+
 def readers(work):
     """dvitype, dvips with gs, dvipdfmx with pdftoppm, and dvipng on files of boxglue: each takes
     all pages and says nothing."""
@@ -131,14 +146,7 @@ def readers(work):
         ):
             status, text = work.run(*words)
             runs[words[0]] += 1
-            if words[0] in ("gs", "pdftoppm"):
-                said = [text] if text.strip() else []
-            else:
-                said = re.findall(
-                    r"(?i)(?:%s)?[^\n]*(?:warning|error|missing|cannot|can't|unimplemented)[^\n]*"
-                    % words[0],
-                    text,
-                )
+            said = said_by(words, text)
             if words[0] == "dvipng" and said and all("special{html:" in it for it in said):
                 causes["files with links, of which dvipng warns"] += 1
             elif status or said:
@@ -206,45 +214,40 @@ PARTS = {
 }
 
 
-def main():
-    parser = argparse.ArgumentParser(
-        description=__doc__, formatter_class=argparse.RawDescriptionHelpFormatter
-    )
-    parser.add_argument(
-        "--boxglue",
-        default=os.environ.get("BOXGLUE", os.path.join(HERE, "../../crates/boxglue/out/boxglue")),
-    )
-    parser.add_argument(
-        "--by",
-        choices=("program", "session"),
-        default="program",
-        metavar="WAY",
-        help="program or session",
-    )
-    parser.add_argument(
-        "--folder", help="a folder for all inputs and outputs, else one that is removed"
-    )
-    parser.add_argument(
-        "--notes", type=int, default=5, metavar="N", help="how many differences of a part are shown"
-    )
-    parser.add_argument(
-        "--seeds", type=int, metavar="N", help="of random work the first N seeds of a part alone"
-    )
-    parser.add_argument("parts", nargs="*", metavar="PART", help=", ".join(PARTS))
+def words_of():
+    """Reads the command line."""
+    layout = argparse.RawDescriptionHelpFormatter
+    parser = argparse.ArgumentParser(description=__doc__, formatter_class=layout)
+    built = os.path.join(HERE, "../../crates/boxglue/out/boxglue")
+    parser.add_argument("--boxglue", default=os.environ.get("BOXGLUE", built))
+    ways = {"choices": ("program", "session"), "default": "program", "metavar": "WAY"}
+    number = {"type": int, "metavar": "N"}
+    for name, how, about in (
+        ("--by", ways, "program or session"),
+        ("--folder", {}, "a folder for all inputs and outputs, else one that is removed"),
+        ("--notes", {**number, "default": 5}, "how many differences of a part are shown"),
+        ("--seeds", number, "of random work the first N seeds of a part alone"),
+        ("parts", {"nargs": "*", "metavar": "PART"}, ", ".join(PARTS)),
+    ):
+        parser.add_argument(name, help=about, **how)
     words = parser.parse_args()
-    parts = words.parts or list(PARTS)
-    if not set(parts) <= set(PARTS):
+    words.parts = words.parts or list(PARTS)
+    if not set(words.parts) <= set(PARTS):
         parser.error("the parts are " + ", ".join(PARTS))
     if not os.path.isfile(words.boxglue):
         sys.exit("%s is not there" % words.boxglue)
+    return words
+
+
+def main():
+    words = words_of()
     left_out = 0
     with tempfile.TemporaryDirectory() as room:
         folder = os.path.abspath(words.folder or room)
         os.makedirs(folder, exist_ok=True)
-        work = (SessionWork if words.by == "session" else Work)(
-            words.boxglue, folder, words.notes, words.seeds
-        )
-        for part in parts:
+        kind = SessionWork if words.by == "session" else Work
+        work = kind(words.boxglue, folder, words.notes, words.seeds)
+        for part in words.parts:
             start, (compare, tools) = time.monotonic(), PARTS[part]
             lacks = [it for it in tools.split() if shutil.which(it) is None]
             if lacks:

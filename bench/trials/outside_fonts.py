@@ -131,102 +131,127 @@ class Batch:
         self.add(["end", "ship 0"], "}\\shipout\\box0")
 
 
+# Why files and fonts differ, where the reason is known.
+MORE_BYTES = (
+    "files with bytes after their last word, of which tftopl warns; boxglue and tex read them"
+)
+NO_FIT = (
+    "fonts with a width, height, depth or kern that does not fit at the other size, which boxglue "
+    "refuses (FORMATS.md)"
+)
+KEPT = (
+    "fonts whose words differ, all with ligatures that keep a character, which boxglue passes over"
+)
+
+
+class Readers:
+    """What the three readers said of all files, and what differs."""
+
+    def __init__(self):
+        self.verdicts, self.causes, self.sizes, self.words = (Counter() for _ in range(4))
+        self.notes, self.tally = [], Tally()
+
+    def answers(self, part, batch, ours, theirs):
+        """The answers to the fonts of a batch by their slots; compares the sizes of characters."""
+        accepted = {}
+        for place, (key, line) in batch.keys.items():
+            both = ours[line], theirs[place]
+            if key[0] == "font":
+                accepted[key[2]] = both
+            elif accepted[key[1]][0] == "ok" and accepted[key[1]][1] != "nullfont":
+                self.sizes["unequal" if both[0] != both[1] else "equal"] += 1
+                if both[0] != both[1]:
+                    where = part[key[1] % BATCH].path, key[2]
+                    self.notes.append("%s, character %d: %s and %s" % (*where, *both))
+        return accepted
+
+    def file(self, listing, answer, said, other_size):
+        """Compares what boxglue, at two sizes, and tex say of a file, and tftopl's listing."""
+        ours, tex = answer == "ok", said != "nullfont"
+        proceeds = "but I'll proceed as if it weren't there."
+        lines = listing.complaints
+        other = [it for it in lines if it != proceeds and not it.startswith(JUNK)]
+        quiet = listing.read and not lines
+        self.verdicts.update({"boxglue": ours, "tex": tex, "tftopl": quiet})
+        if ours and tex and listing.read and lines and not other:
+            self.causes[MORE_BYTES] += 1
+        elif not ours == tex == quiet:
+            by = answer, "read" if tex else "refused", "; ".join(lines[:3]) or "no complaint"
+            self.notes.append("%s: boxglue: %s; tex: %s; tftopl: %s" % (listing.path, *by))
+        if ours and other_size == "refused 3 DimensionTooLarge":
+            self.causes[NO_FIT] += 1
+        elif other_size != answer:
+            self.notes.append("%s: at another size: %s" % (listing.path, other_size))
+
+    def page(self, listing, ours, theirs):
+        """Compares the pages of the words of a font."""
+        self.words["with steps"] += bool(listing.pairs)
+        one = Tally()
+        if not one.page(listing.path, ours, theirs) and listing.others:
+            self.causes[KEPT] += 1
+        else:
+            self.tally.add(one)
+
+    def shown(self, count):
+        """The line about all files."""
+        by = [self.verdicts[it] for it in ("boxglue", "tex", "tftopl")]
+        sizes = self.sizes["equal"], self.sizes["unequal"]
+        form = (
+            "metrics: %d files; accepted by boxglue %d, by tex %d, by tftopl without a word %d; "
+            "sizes of characters: %d equal, %d unequal; words: fonts with steps %d, %s"
+        )
+        return form % (count, *by, *sizes, self.words["with steps"], self.tally.shown())
+
+
 def metrics(work):
     """Every metric file of TeX Live."""
-    paths = files()
+    paths, readers = files(), Readers()
     with ThreadPoolExecutor(2) as pool:
         listings = list(pool.map(Listing, paths))
-    verdicts, causes, notes, sizes, tally, words = (
-        Counter(),
-        Counter(),
-        [],
-        Counter(),
-        Tally(),
-        Counter(),
-    )
     for first in range(0, len(paths), BATCH):
         part = listings[first : first + BATCH]
-        batch = Batch(first, part)
-        name = "metrics%d" % first
+        batch, name = Batch(first, part), "metrics%d" % first
         for font, path in batch.names.items():
             if not os.path.lexists(work.path(font + ".tfm")):
                 os.symlink(path, work.path(font + ".tfm"))
-        answers = work.typeset(
-            name, "\n".join(batch.box) + "\n", ["%s=%s" % it for it in batch.names.items()]
-        )
+        fonts = ["%s=%s" % it for it in batch.names.items()]
+        ours = work.typeset(name, "\n".join(batch.box) + "\n", fonts)
         work.tex(name, "\n".join(batch.tex) + "\n\\end\n")
         theirs = work.text(name + ".out").split("\n")[:-1]
-        accepted = {}
-        for place, (key, line) in batch.keys.items():
-            if key[0] == "font":
-                accepted[key[2]] = (answers[line], theirs[place])
-            elif accepted[key[1]][0] == "ok" and accepted[key[1]][1] != "nullfont":
-                sizes["unequal" if answers[line] != theirs[place] else "equal"] += 1
-                if answers[line] != theirs[place]:
-                    notes.append(
-                        "%s, character %d: %s and %s"
-                        % (part[key[1] % BATCH].path, key[2], answers[line], theirs[place])
-                    )
+        accepted = readers.answers(part, batch, ours, theirs)
         for i, listing in enumerate(part):
-            ours, tex = accepted[i][0] == "ok", accepted[i][1] != "nullfont"
-            other = [
-                line
-                for line in listing.complaints
-                if line != "but I'll proceed as if it weren't there." and not line.startswith(JUNK)
-            ]
-            quiet = listing.read and not listing.complaints
-            verdicts["boxglue"] += ours
-            verdicts["tex"] += tex
-            verdicts["tftopl"] += quiet
-            if ours and tex and listing.read and listing.complaints and not other:
-                causes[
-                    "files with bytes after their last word, of which tftopl warns; boxglue and tex read them"
-                ] += 1
-            elif not ours == tex == quiet:
-                notes.append(
-                    "%s: boxglue: %s; tex: %s; tftopl: %s"
-                    % (
-                        listing.path,
-                        accepted[i][0],
-                        "read" if tex else "refused",
-                        "; ".join(listing.complaints[:3]) or "no complaint",
-                    )
-                )
-            if ours and accepted[BATCH + i][0] == "refused 3 DimensionTooLarge":
-                causes[
-                    "fonts with a width, height, depth or kern that does not fit at the other size, which boxglue refuses (FORMATS.md)"
-                ] += 1
-            elif accepted[BATCH + i][0] != accepted[i][0]:
-                notes.append("%s: at another size: %s" % (listing.path, accepted[BATCH + i][0]))
+            readers.file(listing, *accepted[i], accepted[BATCH + i][0])
         pages = [
             {page.counts[0]: page for page in by_dvitype(file, work.folder).named()}
             for file in (name + ".ours.dvi", name + ".dvi")
         ]
         for number in sorted(set(pages[0]) & set(pages[1])):
-            listing = listings[number]
-            words["with steps"] += bool(listing.pairs)
-            one = Tally()
-            same = one.page(listing.path, pages[0][number], pages[1][number])
-            if not same and listing.others:
-                causes[
-                    "fonts whose words differ, all with ligatures that keep a character, which boxglue passes over"
-                ] += 1
-            else:
-                tally.add(one)
-    line = (
-        "metrics: %d files; accepted by boxglue %d, by tex %d, by tftopl without a word %d; sizes of characters: %d equal, %d unequal; words: fonts with steps %d, %s"
-        % (
-            len(paths),
-            verdicts["boxglue"],
-            verdicts["tex"],
-            verdicts["tftopl"],
-            sizes["equal"],
-            sizes["unequal"],
-            words["with steps"],
-            tally.shown(),
-        )
-    )
-    work.show(line, causes, notes + tally.notes)
+            readers.page(listings[number], pages[0][number], pages[1][number])
+    work.show(readers.shown(len(paths)), readers.causes, readers.notes + readers.tally.notes)
+
+
+def judge_damaged(work, first, batch, together, notes):
+    """Gives damaged files, each with what was done to it and its listing, to boxglue and to tex, and
+    counts who reads them."""
+    names = [name for (name, _), _ in batch]
+    script = "".join("font %d %s\n" % it for it in enumerate(names))
+    fonts = ["%s=%s.tfm" % (it, it) for it in names]
+    answers = work.typeset("damaged%d" % first, script, fonts)
+    says = "".join("\\font\\x=%s \\say{\\fontname\\x}%%\n" % it for it in names)
+    work.tex("damaged%d" % first, TEX_HEAD + says + "\\end\n")
+    theirs = work.text("damaged%d.out" % first).split("\n")
+    for i, ((_, what), listing) in enumerate(batch):
+        ours, tex = answers[i + 1], "refused" if theirs[i] == "nullfont" else "read"
+        complaints = [
+            line
+            for line in listing.complaints
+            if JUNK not in line and "but I'll proceed" not in line
+        ]
+        third = "refused" if not listing.read else "corrected" if complaints else "read"
+        together[("read" if ours == "ok" else "refused", tex, third)] += 1
+        if (ours == "ok") != (tex == "read"):
+            said = what, ours, tex, third, "; ".join(complaints[:2])
+            notes.append("%s: boxglue: %s; tex: %s; tftopl: %s, %s" % said)
 
 
 def damaged(work):
@@ -251,36 +276,8 @@ def damaged(work):
     together, notes = Counter(), []
     # TeX gives up after a hundred errors.
     for first in range(0, len(cases), 90):
-        part = cases[first : first + 90]
-        script = "".join("font %d %s\n" % (i, name) for i, (name, _) in enumerate(part))
-        answers = work.typeset(
-            "damaged%d" % first, script, ["%s=%s.tfm" % (name, name) for name, _ in part]
-        )
-        work.tex(
-            "damaged%d" % first,
-            TEX_HEAD
-            + "".join("\\font\\x=%s \\say{\\fontname\\x}%%\n" % name for name, _ in part)
-            + "\\end\n",
-        )
-        theirs = work.text("damaged%d.out" % first).split("\n")
-        for i, (name, what) in enumerate(part):
-            listing, ours, tex = (
-                listings[first + i],
-                answers[i + 1],
-                "refused" if theirs[i] == "nullfont" else "read",
-            )
-            complaints = [
-                line
-                for line in listing.complaints
-                if JUNK not in line and "but I'll proceed" not in line
-            ]
-            third = "refused" if not listing.read else "corrected" if complaints else "read"
-            together[("read" if ours == "ok" else "refused", tex, third)] += 1
-            if (ours == "ok") != (tex == "read"):
-                notes.append(
-                    "%s: boxglue: %s; tex: %s; tftopl: %s, %s"
-                    % (what, ours, tex, third, "; ".join(complaints[:2]))
-                )
+        batch = list(zip(cases, listings))[first : first + 90]
+        judge_damaged(work, first, batch, together, notes)
     table = ", ".join(
         "%d %s by boxglue, %s by tex, %s by tftopl" % (count, *key)
         for key, count in together.most_common()

@@ -46,9 +46,8 @@ class Reading:
         return [Page(page.counts, [of(mark) for mark in page.marks]) for page in self.pages]
 
 
-def by_dvitype(path, folder):
-    """A reading by dvitype, from its text at level 4. It says each new h and v, so nothing is added
-    up here."""
+def text_of_dvitype(path, folder):
+    """What dvitype prints of a file at level 4, and its status."""
     # With ten stars dvitype says all ten counts of a page.
     words = ["dvitype", "-output-level=4", "-page-start=" + ".".join("*" * 10), path]
     with subprocess.Popen(
@@ -63,20 +62,36 @@ def by_dvitype(path, folder):
         # says.
         if len(text) == MOST_TEXT:
             done.kill()
+    return text, done.returncode
+
+
+def is_complaint(name, line):
+    """Whether dvitype complains in a line of this command."""
+    if name == "xxx":
+        return "string of negative length!" in line
+    return COMPLAINT.search(OUTSIDE.sub("", line))
+
+
+def moved(line, h, v):
+    """The place after a line that says it, as a whole or by one of both."""
+    saved, right, down = SAVED.match(line), RIGHT.search(line), DOWN.search(line)
+    if saved:
+        h, v = map(int, saved.groups())
+    return int(right[2]) if right else h, int(down[1]) if down else v
+
+
+def by_dvitype(path, folder):
+    """A reading by dvitype, from its text at level 4. It says each new h and v, so nothing is added
+    up here."""
+    text, status = text_of_dvitype(path, folder)
     pages, fonts, complaints = [], {}, []
     h = v = 0
     font, marks = None, []
-    for line in text.split("\n"):
-        # Lines in brackets repeat the letters of a line of text.
-        if line.startswith("["):
-            continue
+    # Lines in brackets repeat the letters of a line of text.
+    for line in (it for it in text.split("\n") if not it.startswith("[")):
         step = STEP.match(line)
         name, number, rest = step.groups() if step else (None, None, None)
-        if (
-            COMPLAINT.search(OUTSIDE.sub("", line))
-            if name != "xxx"
-            else "string of negative length!" in line
-        ):
+        if is_complaint(name, line):
             complaints.append(line)
         if name == "beginning":
             counts = [int(it) for it in rest.split()[2].split(".")]
@@ -100,17 +115,10 @@ def by_dvitype(path, folder):
             found = FONT.match(line)
             if found:
                 fonts[int(found[1])] = (found[2].split(":")[-1], int(found[3]))
-        if name == "xxx":
-            continue
-        saved, right, down = SAVED.match(line), RIGHT.search(line), DOWN.search(line)
-        if saved:
-            h, v = map(int, saved.groups())
-        if right:
-            h = int(right[2])
-        if down:
-            v = int(down[1])
-    if done.returncode:
-        complaints.append("status %d" % done.returncode)
+        if name != "xxx":
+            h, v = moved(line, h, v)
+    if status:
+        complaints.append("status %d" % status)
     units = UNITS.search(text)
     return Reading(pages, fonts, complaints, units and tuple(map(int, units.groups())))
 

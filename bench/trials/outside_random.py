@@ -158,15 +158,17 @@ def traces(log):
     return found
 
 
+PARAGRAPH = re.compile(r"paragraph lines (\d+) pass (\d) overhang (-?\d+) demerits (-?\d+)")
+FORCED = (
+    "totals without the demerits of a line to a forced place, which TeX leaves out in its last "
+    "pass where one list reaches it"
+)
+
+
 def judged(answer, trace, used, found, where):
     """Compares the answer to a paragraph with TeX's trace; says whether its lines are
     comparable."""
-    lines, decided, overhang, total = map(
-        int,
-        re.fullmatch(
-            r"paragraph lines (\d+) pass (\d) overhang (-?\d+) demerits (-?\d+)", answer
-        ).groups(),
-    )
+    lines, decided, overhang, total = map(int, PARAGRAPH.fullmatch(answer).groups())
     # Without demerits, a line is one that TeX takes for want of a better one, or the only one that
     # reaches a forced place (TeX: The Program, 854).
     free = [badness for badness, demerits in trace.chain if demerits == "*"]
@@ -188,15 +190,9 @@ def judged(answer, trace, used, found, where):
         return False
     found.answers["paragraphs in pass %d" % decided] += 1
     missing = sum(min((used["linepenalty"] + badness) ** 2, 10**8) for badness in forced)
-    if (
-        total != trace.total
-        and forced
-        and (total - trace.total - missing)
-        in [used["adjdemerits"] * count for count in range(len(forced) + 1)]
-    ):
-        found.causes[
-            "totals without the demerits of a line to a forced place, which TeX leaves out in its last pass where one list reaches it"
-        ] += 1
+    adjusted = [used["adjdemerits"] * count for count in range(len(forced) + 1)]
+    if total != trace.total and forced and (total - trace.total - missing) in adjusted:
+        found.causes[FORCED] += 1
     elif total > trace.total and used["loose"]:
         found.causes[LOOSE] += 1
         return False

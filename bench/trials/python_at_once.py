@@ -284,56 +284,42 @@ def equal_copies(one):
     yield from (copy.copy(one), copy.deepcopy(one))
 
 
-def copies(given, _workers, rounds):
+def things_of(given):
+    """Objects of all kinds that a program may copy."""
     ran, _, document, fonts, bitmap = given.wanted
     refused = boxglue.run(BAD)
-    things = [
-        ran,
-        ran.replies,
-        *ran.replies[:COPIED],
-        document,
-        document.pages,
-        document.marks,
-        document.marks[::3],
-    ]
-    things += [
-        *document.pages[:COPIED],
-        *document.marks[:COPIED],
-        *fonts,
-        bitmap,
-        refused,
-        *refused.refusals,
-        document.units,
-    ]
-    things += [
-        getattr(boxglue, it)("x") for it in ("OutOfMemory", "NoSuchPage", "BadFontName", "NoJob")
-    ]
+    yield from (ran, ran.replies, *ran.replies[:COPIED])
+    yield from (document, document.pages, document.marks, document.marks[::3])
+    yield from (*document.pages[:COPIED], *document.marks[:COPIED], *fonts, bitmap)
+    yield from (refused, *refused.refusals, document.units)
+    for name in ("OutOfMemory", "NoSuchPage", "BadFontName", "NoJob"):
+        yield getattr(boxglue, name)("x")
+
+
+def is_copy(one, other):
+    """Whether another object is as this one. Exceptions but for refusals compare by their texts."""
+    if isinstance(one, Exception) and not isinstance(one, boxglue.Refused):
+        return str(other) == str(one) and type(other) is type(one)
+    return other == one
+
+
+def copies(given, _workers, rounds):
+    things = [*things_of(given)]
     for _ in range(max(rounds // 50, 1)):
         for one in things:
             for other in equal_copies(one):
-                is_same = (
-                    str(other) == str(one) and type(other) is type(one)
-                    if isinstance(one, Exception) and not isinstance(one, boxglue.Refused)
-                    else other == one
-                )
-                require(is_same, "%r has another copy" % (one,))
+                require(is_copy(one, other), "%r has another copy" % (one,))
     job = boxglue.Job(given.fonts)
-    for way in (
-        copy.copy,
-        copy.deepcopy,
-        *(
-            lambda it, protocol=protocol: pickle.dumps(it, protocol)
-            for protocol in range(pickle.HIGHEST_PROTOCOL + 1)
-        ),
-    ):
+    protocols = range(pickle.HIGHEST_PROTOCOL + 1)
+    by_pickle = [lambda it, protocol=protocol: pickle.dumps(it, protocol) for protocol in protocols]
+    for way in (copy.copy, copy.deepcopy, *by_pickle):
         try:
             way(job)
         except TypeError:
             continue
         require(False, "a job was copied")
-    require(
-        rest_of(job, given.pieces) == given.dvi, "a job that refused to be copied made another file"
-    )
+    is_same = rest_of(job, given.pieces) == given.dvi
+    require(is_same, "a job that refused to be copied made another file")
 
 
 def views(given, workers, rounds):

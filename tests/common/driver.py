@@ -284,10 +284,8 @@ def main(root, given):
     parser, words = words_of(given)
     parts = chosen(parser, words, root)
     if words.list:
-        print(
-            "".join(f"{it.name:21}{it.title}\n" for it in sorted(parts, key=lambda it: it.name)),
-            end="",
-        )
+        by_name = sorted(parts, key=lambda it: it.name)
+        print("".join(f"{it.name:21}{it.title}\n" for it in by_name), end="")
         return 0
     if words.gate and not (words.program and words.rows and words.library):
         parser.error("--gate needs --program, --rows and --library")
@@ -305,11 +303,8 @@ def main(root, given):
         built["library"] = [os.path.abspath(words.library)]
         absent += [f"archive {it}" for it in built["library"] if not os.path.isfile(it)]
     if absent:
-        print(
-            "".join(f"FAILED: no {it}\n" for it in absent)
-            + f"0 passed, {len(absent)} failed, 0 skipped",
-            flush=True,
-        )
+        failures = "".join(f"FAILED: no {it}\n" for it in absent)
+        print(f"{failures}0 passed, {len(absent)} failed, 0 skipped", flush=True)
         return 1
     signal.signal(signal.SIGTERM, lambda number, _: sys.exit(128 + number))
     results = run_all(parts, built, words.gate, root)

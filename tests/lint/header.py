@@ -291,22 +291,6 @@ def refusal_names(root):
     return None if found == wanted else f"the header has {found}, and Python has {wanted}"
 
 
-def refusal_names(root):
-    """What is wrong with the names of refusals and of their causes: C and Python have the same
-    ones."""
-    lists = re.findall(r"const names\[\] = \{([^}]*)\}", declared(root))
-    found = [re.findall(r'"(\w+)"', it) for it in lists]
-    python_text = read(f"{root}/{REPLIES_OF_PYTHON}")
-    wanted = [
-        re.findall(r'\d+: "(\w+)"', re.search(r"_REFUSALS = \{(.*?)\}", python_text, flags=re.S)[1])
-    ]
-    wanted += [
-        re.findall(r'"(\w+)"', re.search(rf"{it} = (.*)", python_text)[1])
-        for it in ("_DVI_CAUSES", "_METRIC_CAUSES")
-    ]
-    return None if found == wanted else f"the header has {found}, and Python has {wanted}"
-
-
 def c_of_rust(text):
     """What C writes for parameters or fields of Rust. A name that is a word of Rust has an
     underscore after it there."""

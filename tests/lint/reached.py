@@ -226,34 +226,29 @@ class Tree:
             if found:
                 yield found
 
+    def constant_definition(self, it):
+        """A constant of a source: its comment and its text."""
+        path = f"crates/{it.crate}/src/{it.module}.rt"
+        constant = rf"(?m)^((?:///[^\n]*\n)*)pub const {re.escape(it.name)}\b[^;]*;"
+        there = os.path.exists(f"{self.root}/{path}")
+        match = there and re.search(constant, read(f"{self.root}/{path}"))
+        comment = " ".join(re.findall(r"///\s?(.*)", match[1])) if match else ""
+        text = match[0][len(match[1]) :] if match else ""
+        return Definition([it.name], comment, path, text=text)
+
     def type_definition(self, it):
         """A type or a constant of a source: its comment and its view, or the types of its fields
         where it has none."""
         if it.module:
-            path = f"{self.root}/crates/{it.crate}/src/{it.module}.rt"
-            match = os.path.exists(path) and re.search(
-                rf"(?m)^((?:///[^\n]*\n)*)pub const {re.escape(it.name)}\b[^;]*;", read(path)
-            )
-            comment = " ".join(re.findall(r"///\s?(.*)", match[1])) if match else ""
-            return Definition(
-                [it.name],
-                comment,
-                f"crates/{it.crate}/src/{it.module}.rt",
-                text=match[0][len(match[1]) :] if match else "",
-            )
+            return self.constant_definition(it)
         path = self.type_file(it.crate, it.name)
         text = read(path)
         match = re.search(RUST.format(re.escape(it.name)), text)
         comment = " ".join(re.findall(r"///\s?(.*)", match[1]))
         line = text.count("\n", 0, match.end()) + 1
         body = declaration(text, match.start() + len(match[1]))
-        definition = Definition(
-            [it.name],
-            comment,
-            f"{os.path.relpath(path, self.root)}:{line}",
-            rust_fields(body),
-            body,
-        )
+        place = f"{os.path.relpath(path, self.root)}:{line}"
+        definition = Definition([it.name], comment, place, rust_fields(body), body)
         names, modules = imports(text)
         models = [
             whole for file in self.files(it.crate) for whole in models_of(read(file), it.name)
@@ -261,23 +256,14 @@ class Tree:
         for model in models:
             value = re.search(r"(?s)ghost Value = \{(.*?)\};", model)
             inner, inner_modules = imports(model)
-            definition.uses += self.named(
-                value[1] if value else "",
-                {},
-                {**names, **inner},
-                {**modules, **inner_modules},
-                it.crate,
-                "",
-            )
+            both, all_modules = {**names, **inner}, {**modules, **inner_modules}
+            text_of_value = value[1] if value else ""
+            definition.uses += self.named(text_of_value, {}, both, all_modules, it.crate, "")
         if not models:
             plain = re.sub(r"///[^\n]*", "", body)
-            definition.uses += self.types_in(
-                re.sub(r"(?m)^    \w+(?=[,({ ])", "", plain)
-                if re.match(r"\s*(?:pub )?enum", plain)
-                else plain,
-                it,
-                text,
-            )
+            if re.match(r"\s*(?:pub )?enum", plain):
+                plain = re.sub(r"(?m)^    \w+(?=[,({ ])", "", plain)
+            definition.uses += self.types_in(plain, it, text)
         return definition
 
     def types_in(self, body, it, text):

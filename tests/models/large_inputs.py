@@ -793,6 +793,10 @@ def long_texts():
     return Work({"tiny.tfm": TINY}, [run])
 
 
+# A list of text at 100sp.
+SMALL_TEXT = ("font 0 tiny at 100sp", "use 0", "hbox into 0")
+
+
 def longest_texts():
     """A `text` of 20 MB that would make the list too long adds nothing, and one of as many missing
     characters is looked through to its end: each with 100 MB of memory, at once and in a session.
@@ -806,39 +810,14 @@ def longest_texts():
         (text_of(size), "refused 10 ListTooLong"),
         (f"text {'z' * size}", f"added 0 missing {size}"),
     ):
-        lines = [
-            "font 0 tiny at 100sp",
-            "use 0",
-            "hbox into 0",
-            text_of(3),
-            text,
-            text_of(1),
-            "end",
-            "ship 0",
-        ]
-        replies = [
-            "ok",
-            "ok",
-            "ok",
-            "added 3 missing 0",
-            reply,
-            "added 1 missing 0",
-            packed(4 * 50, 50, 0),
-            "shipped 1",
-        ]
+        lines = [*SMALL_TEXT, text_of(3), text, text_of(1), "end", "ship 0"]
+        added = ["added 3 missing 0", reply, "added 1 missing 0"]
+        replies = ["ok", "ok", "ok", *added, packed(4 * 50, 50, 0), "shipped 1"]
         printed, status = answers(replies, summary(1, file)), int(reply.startswith("refused"))
         for task in ("typeset", "session"):
-            words = (task, "out.dvi", "tiny=tiny.tfm")
-            runs.append(
-                Run(
-                    words,
-                    script(lines),
-                    stdout=(printed,),
-                    status=status,
-                    made={"out.dvi": file.data},
-                    memory=100_000_000,
-                )
-            )
+            words, made = (task, "out.dvi", "tiny=tiny.tfm"), {"out.dvi": file.data}
+            how = {"stdout": (printed,), "status": status, "made": made, "memory": 100_000_000}
+            runs.append(Run(words, script(lines), **how))
     return Work({"tiny.tfm": TINY}, runs)
 
 

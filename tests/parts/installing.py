@@ -644,53 +644,32 @@ def removes(site):
 
 def cases(programs, root):
     """The cases, by name."""
-    yield "a program", partial(
-        with_programs, partial(copies, root, ["--prefix", "ROOM/a folder"], "a folder"), programs
-    )
-    yield "a program, without a folder", partial(
-        with_programs, partial(copies, root, [], "home/.local"), programs
-    )
-    yield "a file that is not there", partial(
-        refused, root, ["--program", "absent"], "absent cannot be run"
-    )
-    yield "a file that is no program", partial(
-        refused, root, ["--program", "given"], "given cannot be run", "end: pages 0 bytes 0\n"
-    )
-    yield "another program", partial(
-        refused,
-        root,
-        ["--program", "given"],
-        "given is not boxglue",
-        "#!/bin/sh\necho end: pages 1 bytes 0\n",
-    )
-    yield "crates in order", partial(on_site, proves, root)
-    yield "a crate that is not proved", partial(on_site, stops_at_a_crate, root, "right", ["left"])
-    yield "a program that is not proved", partial(
-        on_site, stops_at_a_crate, root, "boxglue", NAMES[:3]
-    )
-    yield "an interrupt", partial(
-        on_site,
-        stops_when_told,
-        root,
-        signal.SIGINT,
-        ["4 crates", "left: proved", "proving right; 3 of 4 left, about "],
-    )
-    yield "lines that nobody reads", partial(on_site, stops_without_a_reader, root)
-    yield "a kill", partial(on_site, goes_on_after_a_kill, root)
+    site = lambda call, *given: partial(on_site, call, root, *given)
+    copied = lambda *given: partial(with_programs, partial(copies, root, *given), programs)
+    wrong = lambda path, *given: partial(refused, root, ["--program", path], *given)
+    yield "a program", copied(["--prefix", "ROOM/a folder"], "a folder")
+    yield "a program, without a folder", copied([], "home/.local")
+    yield "a file that is not there", wrong("absent", "absent cannot be run")
+    no_program = wrong("given", "given cannot be run", "end: pages 0 bytes 0\n")
+    yield "a file that is no program", no_program
+    another = wrong("given", "given is not boxglue", "#!/bin/sh\necho end: pages 1 bytes 0\n")
+    yield "another program", another
+    yield "crates in order", site(proves)
+    yield "a crate that is not proved", site(stops_at_a_crate, "right", ["left"])
+    yield "a program that is not proved", site(stops_at_a_crate, "boxglue", NAMES[:3])
+    told = ["4 crates", "left: proved"]
+    proving = [*told, "proving right; 3 of 4 left, about "]
+    yield "an interrupt", site(stops_when_told, signal.SIGINT, proving)
+    yield "the end of a terminal", site(stops_when_told, signal.SIGHUP, told)
+    yield "an end", site(stops_when_told, signal.SIGTERM, told)
+    yield "lines that nobody reads", site(stops_without_a_reader)
+    yield "a kill", site(goes_on_after_a_kill)
     yield "what is left", partial(knows_what_is_left, root)
     yield "a control group", partial(fits_a_control_group, root)
-    yield "without proofs", partial(on_site, builds_unproved, root)
-    yield "over a proved program", partial(on_site, keeps_what_is_proved, root)
-    yield "the library", partial(on_site, puts_the_library, root)
-    yield "the library in another folder", partial(on_site, puts_the_library_elsewhere, root)
-    yield "the library without rt", partial(on_site, needs_no_rt, root)
-    yield "over a proved library, wheel and crates", partial(
-        on_site, keeps_what_is_proved_of_the_library, root
-    )
-    yield "all is removed", partial(on_site, removes, root)
-    yield "the end of a terminal", partial(
-        on_site, stops_when_told, root, signal.SIGHUP, ["4 crates", "left: proved"]
-    )
-    yield "an end", partial(
-        on_site, stops_when_told, root, signal.SIGTERM, ["4 crates", "left: proved"]
-    )
+    yield "without proofs", site(builds_unproved)
+    yield "over a proved program", site(keeps_what_is_proved)
+    yield "the library", site(puts_the_library)
+    yield "the library in another folder", site(puts_the_library_elsewhere)
+    yield "the library without rt", site(needs_no_rt)
+    yield "over a proved library, wheel and crates", site(keeps_what_is_proved_of_the_library)
+    yield "all is removed", site(removes)

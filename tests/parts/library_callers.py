@@ -282,7 +282,7 @@ def cases(programs, root):
         "examples/markdown": partial(client, page_of_markdown, 1),
         "examples/library/svg_pages.py": driver,
         "examples/markdown in 1,000 pages": partial(client, book_of_markdown, 1000),
-        "lines of examples/markdown": partial(size_of_client, 166),
+        "lines of examples/markdown": partial(size_of_client, 170),
     }
     calls |= {f"null pointers in {it}": partial(null_pointers, it) for it in LANGUAGES}
     return [(name, partial(outcome, call, root, *programs)) for name, call in calls.items()]

@@ -187,43 +187,24 @@ def backend_wrong(root, prefix, said, room):
     source = shutil.copytree(f"{root}/bindings", f"{room}/bindings", ignore=left_out) + "/python"
     shutil.copytree(f"{root}/examples", f"{room}/examples", ignore=shutil.ignore_patterns("target"))
     library = f"{prefix}/lib/libboxglue.so"
-    for at, (words, env) in enumerate(
-        ((["--config-settings", f"library={library}"], {}), ([], {"BOXGLUE_LIBRARY": library}))
-    ):
-        run(
-            [
-                sys.executable,
-                *"-m pip wheel --quiet --no-deps --wheel-dir".split(),
-                f"{room}/{at}",
-                *words,
-                source,
-            ],
-            room,
-            **NO_NETWORK,
-            **env,
-        )
-        with open(wheel, "rb") as it, open(f"{room}/{at}/{os.path.basename(wheel)}", "rb") as made:
-            if it.read() != made.read() or wheels_in(f"{room}/{at}") != {
-                os.path.basename(wheel): True
-            }:
-                return f"pip makes {wheels_in(f'{room}/{at}')}, which is not the wheel of ./install"
+    given = ["--config-settings", f"library={library}"]
+    pip = [sys.executable, *"-m pip wheel --quiet --no-deps --wheel-dir".split()]
+    name = os.path.basename(wheel)
+    for at, (words, env) in enumerate(((given, {}), ([], {"BOXGLUE_LIBRARY": library}))):
+        run([*pip, f"{room}/{at}", *words, source], room, **NO_NETWORK, **env)
+        is_same = content(wheel) == content(f"{room}/{at}/{name}")
+        if not is_same or wheels_in(f"{room}/{at}") != {name: True}:
+            return f"pip makes {wheels_in(f'{room}/{at}')}, which is not the wheel of ./install"
     old = stand_in(root, f"{room}/old/libboxglue.so", True, 10100)
-    return (
-        refused_wheel(source, [], "the wheel needs libboxglue.so", room)
-        or refused_wheel(
-            source, [], "has version 1.1.0, and the package", room, BOXGLUE_LIBRARY=old
-        )
-        or refused_wheel(
-            source, [], "is not a library of boxglue", room, BOXGLUE_LIBRARY=f"{source}/README.md"
-        )
-        or refused_wheel(
-            source,
-            ["--config-settings", f"library={room}/absent"],
-            "absent",
-            room,
-            BOXGLUE_LIBRARY=library,
-        )
+    absent = ["--config-settings", f"library={room}/absent"]
+    refusals = (
+        ([], "the wheel needs libboxglue.so", {}),
+        ([], "has version 1.1.0, and the package", {"BOXGLUE_LIBRARY": old}),
+        ([], "is not a library of boxglue", {"BOXGLUE_LIBRARY": f"{source}/README.md"}),
+        (absent, "absent", {"BOXGLUE_LIBRARY": library}),
     )
+    found = (refused_wheel(source, words, why, room, **env) for words, why, env in refusals)
+    return next(filter(None, found), None)
 
 
 def source_wrong(root, prefix, said, room):

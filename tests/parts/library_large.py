@@ -146,44 +146,28 @@ def files_that_are_refused():
     defined = post + POST_SIZE
     size = len(definition(FIRST))
     last_name = defined + 2 * size - 5
+    put = lambda place, data_there: changed(data, place, data_there)
+    no_magnification = changed(put(10, bytes(4)), post + 13, bytes(4))
+    same_number = put(defined + size + 1, b"\0")
+    later_bop = put(second_bop + 41, number(first_bop + 1, 4))
     return {
         "an empty file": (b"", 0, "Trailer"),
         "three bytes 223": (data[: end + 4], end + 4, "Trailer"),
-        "another version at the end": (changed(data, end, b"\3"), end, "Version"),
-        "no post_post": (changed(data, end - 5, NOP), end - 5, "Opcode"),
-        "post_post names no post": (
-            changed(data, end - 4, number(post + 1, 4)),
-            end - 4,
-            "Pointer",
-        ),
-        "post names no bop": (
-            changed(data, post + 1, number(second_bop + 1, 4)),
-            post + 1,
-            "Pointer",
-        ),
-        "a bop names no bop": (
-            changed(data, second_bop + 41, number(first_bop + 1, 4)),
-            second_bop + 41,
-            "Pointer",
-        ),
-        "a page too many": (changed(data, post + 27, number(3, 2)), post, "Count"),
-        "no pre": (changed(data, 0, NOP), 0, "Preamble"),
-        "another version at the beginning": (changed(data, 1, b"\3"), 0, "Preamble"),
-        "other units": (changed(data, 13, b"\1"), 0, "Preamble"),
-        "no magnification": (
-            changed(changed(data, 10, bytes(4)), post + 13, bytes(4)),
-            0,
-            "Preamble",
-        ),
-        "a name that is cut off": (changed(data, last_name, b"\5"), defined + size, "Truncated"),
-        "an eop after post": (changed(data, defined, EOP), defined, "Opcode"),
-        "a font of no size": (changed(data, defined + 6, bytes(4)), defined, "Font"),
-        "a font of 2^27": (changed(data, defined + 6, number(1 << 27, 4)), defined, "Font"),
-        "two definitions of a number": (
-            changed(data, defined + size + 1, b"\0"),
-            defined + size,
-            "Font",
-        ),
+        "another version at the end": (put(end, b"\3"), end, "Version"),
+        "no post_post": (put(end - 5, NOP), end - 5, "Opcode"),
+        "post_post names no post": (put(end - 4, number(post + 1, 4)), end - 4, "Pointer"),
+        "post names no bop": (put(post + 1, number(second_bop + 1, 4)), post + 1, "Pointer"),
+        "a bop names no bop": (later_bop, second_bop + 41, "Pointer"),
+        "a page too many": (put(post + 27, number(3, 2)), post, "Count"),
+        "no pre": (put(0, NOP), 0, "Preamble"),
+        "another version at the beginning": (put(1, b"\3"), 0, "Preamble"),
+        "other units": (put(13, b"\1"), 0, "Preamble"),
+        "no magnification": (no_magnification, 0, "Preamble"),
+        "a name that is cut off": (put(last_name, b"\5"), defined + size, "Truncated"),
+        "an eop after post": (put(defined, EOP), defined, "Opcode"),
+        "a font of no size": (put(defined + 6, bytes(4)), defined, "Font"),
+        "a font of 2^27": (put(defined + 6, number(1 << 27, 4)), defined, "Font"),
+        "two definitions of a number": (same_number, defined + size, "Font"),
     }
 
 

@@ -9,7 +9,7 @@ import re
 import tempfile
 from functools import partial
 
-from common.files import write
+from common.files import read, write
 from common.library_build import python_words
 from common.outcome import lacks, need, require
 from common.part import Part
@@ -123,6 +123,34 @@ def kinds(room):
     require(not left, f"nothing is said of {', '.join(left)}")
 
 
+def footnotes(shown, blocks):
+    """Each footnote is on the page of its mark, and below it. Returns how many there are."""
+    count = len(re.findall(r"\banchor\d+\b", " ".join(texts_in(blocks))))
+    for number in range(1, count + 1):
+        mark, foot = rf"anchor{number}{number}(?!\d)", rf"{number}Note{number}(?!\d)"
+        marks, feet = (
+            [at for at, page in enumerate(shown) if re.search(it, page)] for it in (mark, foot)
+        )
+        its = f"the mark of footnote {number} is on the pages {marks}, the footnote on {feet}"
+        require(marks == feet and len(marks) == 1, its)
+        page = shown[marks[0]]
+        is_below = re.search(mark, page).end() <= re.search(foot, page).start()
+        require(is_below, f"footnote {number} is above its mark")
+        require(f"end{number}." in page, f"footnote {number} goes on elsewhere")
+    return count
+
+
+def contents(shown, counts, titles):
+    """Each heading is on the page that the contents give, and does not end it."""
+    listed = re.sub(r"\.{3,}", " ", "".join(page for page, it in zip(shown, counts) if it < 0))
+    for title in titles:
+        found = re.search(rf"{re.escape(title)} (\d+)", listed)
+        is_there = found and title in shown[counts.index(int(found[1]))]
+        require(is_there, f"the contents give {title} {found and found[1]}")
+        after = shown[counts.index(int(found[1]))].rpartition(title)[2]
+        require(after and not re.match(r"\d+Note", after), f"{title} ends its page")
+
+
 def notes(room):
     """Each footnote is on the page of its mark, and below it; each heading is on the page that the
     contents give, in which a link leads to it."""
@@ -130,51 +158,19 @@ def notes(room):
     require(SUMMARY.search(said)[2] == "0", "lines are overfull")
     listing = room.listing(dvi)
     shown, counts = pages_of(listing), numbers(listing)
-    with open(document(room.root, "notes"), encoding="utf-8") as it:
-        blocks = json.load(it)["blocks"]
-    text = " ".join(texts_in(blocks))
-    count = len(re.findall(r"\banchor\d+\b", text))
+    blocks = json.loads(read(document(room.root, "notes")))["blocks"]
+    count = footnotes(shown, blocks)
     require(count > 20 and max(counts) > 5, "the document is too short")
-    for number in range(1, count + 1):
-        mark, foot = rf"anchor{number}{number}(?!\d)", rf"{number}Note{number}(?!\d)"
-        marks, feet = (
-            [at for at, page in enumerate(shown) if re.search(it, page)] for it in (mark, foot)
-        )
-        require(
-            marks == feet and len(marks) == 1,
-            f"the mark of footnote {number} is on the pages {marks}, the footnote on {feet}",
-        )
-        page = shown[marks[0]]
-        require(
-            re.search(mark, page).end() <= re.search(foot, page).start(),
-            f"footnote {number} is above its mark",
-        )
-        require(f"end{number}." in page, f"footnote {number} goes on elsewhere")
-    contents = re.sub(r"\.{3,}", " ", "".join(page for page, it in zip(shown, counts) if it < 0))
-    titles = [
-        ("".join(texts_in(it["c"][2])).replace(" ", ""), it["c"][1][0])
-        for it in blocks
-        if it["t"] == "Header"
-    ]
-    for title, _ in titles:
-        found = re.search(rf"{re.escape(title)} (\d+)", contents)
-        require(
-            found and title in shown[counts.index(int(found[1]))],
-            f"the contents give {title} {found and found[1]}",
-        )
-        after = shown[counts.index(int(found[1]))].rpartition(title)[2]
-        require(after and not re.match(r"\d+Note", after), f"{title} ends its page")
-    places, links = {*re.findall(r"pdf:dest \((p\d+)\)", listing)}, {
-        *re.findall(r"/D\((p\d+)\)", listing)
-    }
-    require(
-        len(places) == len(titles) and links == places, f"links lead to {sorted(links ^ places)}"
-    )
+    headings = [it["c"] for it in blocks if it["t"] == "Header"]
+    titles = ["".join(texts_in(it[2])).replace(" ", "") for it in headings]
+    contents(shown, counts, titles)
+    places = {*re.findall(r"pdf:dest \((p\d+)\)", listing)}
+    links = {*re.findall(r"/D\((p\d+)\)", listing)}
+    is_led = len(places) == len(titles) and links == places
+    require(is_led, f"links lead to {sorted(links ^ places)}")
     levels = re.findall(r"pdf:outline (\d)", listing)
-    require(
-        levels == [str(it["c"][0]) for it in blocks if it["t"] == "Header"],
-        f"the bookmarks have the levels {levels}",
-    )
+    is_marked = levels == [str(it[0]) for it in headings]
+    require(is_marked, f"the bookmarks have the levels {levels}")
 
 
 def small(room):

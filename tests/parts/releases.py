@@ -355,45 +355,27 @@ def kept(_root, made):
 def both_ways(root, made):
     """Files below DESTDIR name only the prefix, ./install --from puts the same files there, and
     each of the two removes what the other put."""
+    prefix = ["--prefix", "/opt/a b"]
     with tempfile.TemporaryDirectory(prefix="boxglue-ways-") as room:
-        ways = {
-            "sh": lambda: placed(made, room, "--prefix", "/opt/a b", DESTDIR=f"{room}/sh"),
-            "from": lambda: run(
-                [f"{root}/install", "--from", only(made, "*-linux.tar.gz"), "--prefix", "/opt/a b"],
-                room,
-                DESTDIR=f"{room}/from",
-            )[::2],
-        }
-        said = {name: call() for name, call in ways.items()}
-        first, second = (files_below(f"{room}/{it}") for it in ways)
-        texts = [
-            it
-            for it in second
-            if os.path.isfile(f"{room}/from/{it}") and room.encode() in content(f"{room}/from/{it}")
-        ]
-        if (
-            any(status for status, _ in said.values())
-            or first != second
-            or len(first) < 50
-            or texts
-        ):
-            return (
-                f"{said}, other files {sorted(first ^ second)[:5]}, files that name DESTDIR {texts}"
-            )
-        gone = [
-            run(
-                [f"{root}/install", "--uninstall", "--prefix", "/opt/a b"],
-                room,
-                DESTDIR=f"{room}/sh",
-            )[::2],
-            placed(made, room, "--uninstall", "--prefix", "/opt/a b", DESTDIR=f"{room}/from"),
-        ]
-        left = [files_below(f"{room}/{it}") for it in ways]
-        return (
-            None
-            if [it for it, _ in gone] == [0, 0] and left == [{"opt", "opt/a b"}] * 2
-            else f"{gone}, and these are left: {[sorted(it)[:5] for it in left]}"
-        )
+        sh = lambda *words: placed(made, room, *words, *prefix, DESTDIR=f"{room}/sh")
+        by_install = lambda folder, *words: run(
+            [f"{root}/install", *words, *prefix], room, DESTDIR=f"{room}/{folder}"
+        )[::2]
+        tarball = only(made, "*-linux.tar.gz")
+        said = {"sh": sh(), "from": by_install("from", "--from", tarball)}
+        first, second = (files_below(f"{room}/{it}") for it in said)
+        paths = {it: f"{room}/from/{it}" for it in second if os.path.isfile(f"{room}/from/{it}")}
+        texts = [it for it, path in paths.items() if room.encode() in content(path)]
+        is_wrong = any(status for status, _ in said.values()) or first != second
+        if is_wrong or len(first) < 50 or texts:
+            others = sorted(first ^ second)[:5]
+            return f"{said}, other files {others}, files that name DESTDIR {texts}"
+        other = placed(made, room, "--uninstall", *prefix, DESTDIR=f"{room}/from")
+        gone = [by_install("sh", "--uninstall"), other]
+        left = [files_below(f"{room}/{it}") for it in said]
+        if [it for it, _ in gone] == [0, 0] and left == [{"opt", "opt/a b"}] * 2:
+            return None
+        return f"{gone}, and these are left: {[sorted(it)[:5] for it in left]}"
 
 
 def script_wrong(root, _made):
@@ -422,41 +404,31 @@ def refuses_changes(root, made):
 def cases(programs, root):
     """The files of a release, what fresh systems make of them, and what is refused."""
     given = [*programs[:2], None, None][:2]
-    page, doc, local = (
-        PAGE.replace("DOC", "/usr/local/share/doc/boxglue"),
-        "/usr/share/doc/boxglue",
-        "export PKG_CONFIG_PATH=/usr/local/lib/pkgconfig\n",
-    )
+    page, doc = PAGE.replace("DOC", "/usr/local/share/doc/boxglue"), "/usr/share/doc/boxglue"
+    local = "export PKG_CONFIG_PATH=/usr/local/lib/pkgconfig\n"
     uninstalled = "/tmp/boxglue-*-linux/install.sh --uninstall --prefix /usr/local > /tmp/said\n"
     in_c = C.replace("LIB ", "/usr/local/lib ")
-    packages = PAGE.replace("DOC", doc) + C.replace("LIB ", "/none ").replace(
-        "METRICS", f"{doc}/examples/plain.tfm"
-    )
-    python = f"python3 /given/page.py {doc}/examples/plain.tfm page.dvi | tail -n 1\n"
+    metrics = f"{doc}/examples/plain.tfm"
+    by_c = C.replace("LIB ", "/none ").replace("METRICS", metrics)
+    python = f"python3 /given/page.py {metrics} page.dvi | tail -n 1\n"
+    packages = PAGE.replace("DOC", doc) + by_c + python
+    names = "python3-boxglue libboxglue-dev libboxglue1 boxglue"
+    over_packages = removed(PACKAGED, packages, f"dpkg --purge {names} > /tmp/said 2>&1\n")
+    tools = lambda text, end=ENDS: partial(in_system, TOOLS, text, end)
+    over_tarball = removed(TARBALL, page, uninstalled)
     yield "the same bytes twice", partial(twice, root, *given)
     over_release = {
         "names and sums": names_wrong,
         "bill of materials": bill_wrong,
         "lintian": lintian_wrong,
         "shellcheck": script_wrong,
-        "tarball in an older system": partial(
-            in_system, OLD, removed(TARBALL, page, uninstalled), END
-        ),
-        "C by pkg-config": partial(in_system, TOOLS, f"{TARBALL}{local}{in_c}", ENDS),
-        "C by CMake": partial(in_system, TOOLS, f"{TARBALL}{CMAKE}", ENDS),
-        "Python by pip": partial(in_system, TOOLS, f"{TARBALL}{PYTHON}", ENDS),
-        "Rust": partial(in_system, TOOLS, f"{TARBALL}{RUST}", ENDS),
-        "Rust by .crate files": partial(in_system, TOOLS, f"{TARBALL}{PACKED_RUST}", ENDS),
-        "packages": partial(
-            in_system,
-            TOOLS,
-            removed(
-                PACKAGED,
-                packages + python,
-                "dpkg --purge python3-boxglue libboxglue-dev libboxglue1 boxglue > /tmp/said 2>&1\n",
-            ),
-            END + 2 * ENDS,
-        ),
+        "tarball in an older system": partial(in_system, OLD, over_tarball, END),
+        "C by pkg-config": tools(f"{TARBALL}{local}{in_c}"),
+        "C by CMake": tools(f"{TARBALL}{CMAKE}"),
+        "Python by pip": tools(f"{TARBALL}{PYTHON}"),
+        "Rust": tools(f"{TARBALL}{RUST}"),
+        "Rust by .crate files": tools(f"{TARBALL}{PACKED_RUST}"),
+        "packages": tools(over_packages, END + 2 * ENDS),
         "damaged": damaged,
         "what is proved stays": kept,
         "DESTDIR, and ./install --from": both_ways,

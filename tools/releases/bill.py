@@ -85,6 +85,10 @@ def packages_of(root: str, edition: Edition, glibc: str) -> list[dict[str, objec
     ]
 
 
+# The names of what a relationship has.
+RELATION = ("spdxElementId", "relationshipType", "relatedSpdxElement")
+
+
 def bill(root: str, folder: str, edition: Edition, glibc: str) -> str:
     """The bill of the files in a folder. Its name depends on these alone."""
     packages = packages_of(root, edition, glibc)
@@ -106,29 +110,18 @@ def bill(root: str, folder: str, edition: Edition, glibc: str) -> str:
         *((ids[0], "STATIC_LINK", it) for it in ids[3:]),
         *((str(it["SPDXID"]), "GENERATED_FROM", ids[0]) for it in files),
     ]
-    name = uuid.UUID(
-        bytes=hashlib.sha256(json.dumps([packages, files]).encode()).digest()[:16], version=5
-    )
-    return (
-        json.dumps(
-            {
-                "spdxVersion": "SPDX-2.3",
-                "dataLicense": "CC0-1.0",
-                "SPDXID": "SPDXRef-DOCUMENT",
-                "name": edition.top,
-                "documentNamespace": f"urn:uuid:{name}",
-                "creationInfo": {
-                    "created": time.strftime("%Y-%m-%dT%H:%M:%SZ", time.gmtime(edition.seconds)),
-                    "creators": ["Tool: boxglue-tools-release"],
-                },
-                "packages": packages,
-                "files": files,
-                "relationships": [
-                    {"spdxElementId": one, "relationshipType": kind, "relatedSpdxElement": other}
-                    for one, kind, other in related
-                ],
-            },
-            indent=1,
-        )
-        + "\n"
-    )
+    digest = hashlib.sha256(json.dumps([packages, files]).encode()).digest()
+    name = uuid.UUID(bytes=digest[:16], version=5)
+    created = time.strftime("%Y-%m-%dT%H:%M:%SZ", time.gmtime(edition.seconds))
+    text = {
+        "spdxVersion": "SPDX-2.3",
+        "dataLicense": "CC0-1.0",
+        "SPDXID": "SPDXRef-DOCUMENT",
+        "name": edition.top,
+        "documentNamespace": f"urn:uuid:{name}",
+        "creationInfo": {"created": created, "creators": ["Tool: boxglue-tools-release"]},
+        "packages": packages,
+        "files": files,
+        "relationships": [dict(zip(RELATION, it)) for it in related],
+    }
+    return json.dumps(text, indent=1) + "\n"

@@ -43,40 +43,31 @@ def with_glibc(path: str) -> str:
     return f"libc6 (>= {needed_glibc(data_of(path))})"
 
 
+def program_package(root: str, top: str, kinds: dict[str, str]) -> Package:
+    """The package of the program, with its manual page, its completions and two examples."""
+    places = ("bin/", "share/man/man1/", "share/bash-completion/", "share/fish/")
+    files = {it: f"usr/{it}" for it in kinds if it.startswith(places)}
+    files["share/zsh/site-functions/_boxglue"] = "usr/share/zsh/vendor-completions/_boxglue"
+    for name in ("first_page.box", "plain.tfm"):
+        place = os.path.relpath(f"{root}/examples/{name}", top)
+        files[place] = f"usr/share/doc/boxglue/examples/{name}"
+    about = "It runs scripts of boxes, glue and text, writes DVI files, and reads them."
+    return Package("boxglue", "text", with_glibc(f"{top}/bin/boxglue"), about, files)
+
+
+def development_files(kinds: dict[str, str]) -> dict[str, str]:
+    """What who builds with the library needs beside it."""
+    suffixes, places = (".a", ".pc", ".cmake"), ("include/", "share/man/man3/")
+    is_other = lambda it: it.endswith(suffixes) and not it.startswith("share/")
+    return {it: f"usr/{it}" for it in kinds if it.startswith(places) or is_other(it)}
+
+
 def packages_of(root: str, top: str, kinds: dict[str, str], edition: Edition) -> list[Package]:
     """The packages but for that of Python, of what `./install` puts into Debian's folders."""
-    shared, same = (
-        f"{LIBRARIES}/libboxglue.so.{edition.number}",
-        "Architecture: amd64\nMulti-Arch: same\n",
-    )
-    texts = {
-        it: f"usr/{it}"
-        for it in kinds
-        if it.startswith(("bin/", "share/man/man1/", "share/bash-completion/", "share/fish/"))
-    }
-    examples = {
-        os.path.relpath(f"{root}/examples/{it}", top): f"usr/share/doc/boxglue/examples/{it}"
-        for it in ("first_page.box", "plain.tfm")
-    }
-    others = {
-        it: f"usr/{it}"
-        for it in kinds
-        if it.startswith(("include/", "share/man/man3/"))
-        or it.endswith((".a", ".pc", ".cmake"))
-        and not it.startswith("share/")
-    }
+    shared = f"{LIBRARIES}/libboxglue.so.{edition.number}"
+    same = "Architecture: amd64\nMulti-Arch: same\n"
     return [
-        Package(
-            "boxglue",
-            "text",
-            with_glibc(f"{top}/bin/boxglue"),
-            "It runs scripts of boxes, glue and text, writes DVI files, and reads them.",
-            {
-                **texts,
-                "share/zsh/site-functions/_boxglue": "usr/share/zsh/vendor-completions/_boxglue",
-                **examples,
-            },
-        ),
+        program_package(root, top, kinds),
         Package(
             "libboxglue1",
             "libs",
@@ -95,7 +86,7 @@ def packages_of(root: str, top: str, kinds: dict[str, str], edition: Edition) ->
             "libdevel",
             f"libboxglue1 (= {edition.debian})",
             "This package has the header, the archive, and files for pkg-config and CMake.",
-            others,
+            development_files(kinds),
             {f"usr/{LIBRARIES}/libboxglue.so": "libboxglue.so.1"},
             {},
             same,

@@ -127,6 +127,68 @@ class Units(unittest.TestCase):
         self.assertEqual([units[unit](Fraction(it)) for it, unit in texts], widths)
 
 
+# What the lists lack, and letters and signs of which Unicode has two.
+SYMBOLS = {
+    "mho": "℧",
+    "ohm": "\u03a9",
+    "permyriad": "‱",
+    "baht": "฿",
+    "servicemark": "℠",
+    "copyleft": "🄯",
+    "published": "℗",
+    "one.superior": "¹",
+    "two.superior": "²",
+    "three.superior": "³",
+    "circlecopyrt": "◯",
+    "mapsto": "↦",
+    "bardbl": "‖",
+    "Delta": "\u0394",
+    "Omega": "\u03a9",
+    "phi": "ϕ",
+    "phi1": "φ",
+    "o": "\u03bf",
+}
+FIL, HALF = (1, "fil"), (Fraction(-1, 2), "filll")
+# The line of a script that each call sends.
+CALLS = {
+    "rule * 2sp 3sp": lambda it: it.rule(None, 2, 3),
+    "rule 1sp * *": lambda it: it.rule(1, None, None),
+    "kern -5sp": lambda it: it.kern(-5),
+    "glue 1sp plus 1.0fil minus -0.5filll": lambda it: it.glue(1, FIL, HALF),
+    "glue 1sp minus 2sp": lambda it: it.glue(1, minus=2),
+    "glue 0sp": lambda it: it.glue(0),
+    "penalty -10000": lambda it: it.penalty(-10_000),
+    "special x y ": lambda it: it.special(b"x y "),
+    "text  a  ": lambda it: it.text(" a  "),
+    "text ": lambda it: it.text(""),
+    "char 255": lambda it: it.char(255),
+    "box 7 shift -2sp": lambda it: it.box(7, shift=-2),
+    "copy 7": lambda it: it.copy(7),
+    "unhbox 1": lambda it: it.unhbox(1),
+    "unhcopy 2": lambda it: it.unhcopy(2),
+    "unvbox 3": lambda it: it.unvbox(3),
+    "unvcopy 4": lambda it: it.unvcopy(4),
+    "lastbox 5": lambda it: it.lastbox(5),
+    "vsplit 1 to 2sp into 3": lambda it: it.vsplit(1, to=2, into=3),
+    "measure 32767": lambda it: it.measure(32767),
+    "void 0": lambda it: it.void(0),
+    "count 9 -2147483648": lambda it: it.count(9, -1 << 31),
+    "ship 3": lambda it: it.ship(3),
+    "use 255": lambda it: it.use(255),
+    "par": lambda it: it.par(),
+    "hbox": lambda it: it.hbox(),
+    "vbox to 7sp": lambda it: it.vbox(to=7),
+    "vtop spread -7sp into 9": lambda it: it.vtop(spread=-7, into=9),
+    "hbox into 0": lambda it: it.hbox(into=0),
+    "font 0 a.b-c_D at 655360sp": lambda it: it.load("a.b-c_D", at=pt(10)),
+    "font 255 x": lambda it: it.load("x", slot=255),
+    "set parfillskip 1sp plus 1.0fil": lambda it: it.set(parfillskip=Glue(1, FIL)),
+    "set baselineskip 3sp": lambda it: it.set(baselineskip=3),
+    "set firstlines 32": lambda it: it.set(firstlines=32),
+    "set widowpenalty -500000000": lambda it: it.set(widowpenalty=-500_000_000),
+}
+
+
 class EachCommand(unittest.TestCase):
     def test_replies(self):
         """Each call, with its own type of reply."""
@@ -135,13 +197,12 @@ class EachCommand(unittest.TestCase):
         self.assertEqual(
             (font.slot, font.name, font.size, job.use(font)), (0, "plain", 10 * PT, Ok(2))
         )
+        height = 11 * PT * 10 // 16
         with job.hbox(into=0) as box:
             self.assertEqual((job.text("ab"), job.char(127)), (Added(4, 2, 0), Added(5, 0, 1)))
-        self.assertEqual(box.reply, Packed(6, WIDTH, 11 * PT * 10 // 16, 0, 0))
-        self.assertEqual(
-            (box.width, box.height, box.depth, box.badness), (WIDTH, 11 * PT * 10 // 16, 0, 0)
-        )
-        self.assertEqual(job.measure(0), Measured(7, "hbox", WIDTH, 11 * PT * 10 // 16, 0))
+        self.assertEqual(box.reply, Packed(6, WIDTH, height, 0, 0))
+        self.assertEqual((box.width, box.height, box.depth, box.badness), (WIDTH, height, 0, 0))
+        self.assertEqual(job.measure(0), Measured(7, "hbox", WIDTH, height, 0))
         with job.vbox(to=pt("23.875"), into=1) as box:
             self.assertEqual(
                 (job.copy(0), job.box(9), job.rule(PT, PT, 0)), (Added(9, 1), Added(10, 0), Ok(11))
@@ -157,13 +218,10 @@ class EachCommand(unittest.TestCase):
         self.assertEqual((par.lines, par.deciding_pass, par.overhang, par.demerits), (0, 0, 0, 0))
         self.assertEqual((job.count(0, 7), job.ship(1)), (Ok(17), Shipped(18, 1)))
         with job.vbox(into=2):
-            job.rule(10 * PT, 5 * PT, 0), job.penalty(10000), job.special("a"), job.glue(
-                2 * PT
-            ), job.rule(10 * PT, 5 * PT, 0)
-        self.assertEqual(
-            job.vsplit(2, to=5 * PT, into=3),
-            Split(26, Sizes(10 * PT, 5 * PT, 0), 0, Sizes(10 * PT, 10 * PT, 0)),
-        )
+            job.rule(10 * PT, 5 * PT, 0), job.penalty(10000), job.special("a")
+            job.glue(2 * PT), job.rule(10 * PT, 5 * PT, 0)
+        split = Split(26, Sizes(10 * PT, 5 * PT, 0), 0, Sizes(10 * PT, 10 * PT, 0))
+        self.assertEqual(job.vsplit(2, to=5 * PT, into=3), split)
         self.assertEqual(
             (job.vsplit(9, to=0, into=9), job.measure(9), job.void(2)),
             (Split(27, None, 0, None), Measured(28, "void", 0, 0, 0), Ok(29)),
@@ -173,45 +231,7 @@ class EachCommand(unittest.TestCase):
 
     def test_texts(self):
         """The script of each call."""
-        fil, half = (1, "fil"), (Fraction(-1, 2), "filll")
-        calls = {
-            "rule * 2sp 3sp": lambda it: it.rule(None, 2, 3),
-            "rule 1sp * *": lambda it: it.rule(1, None, None),
-            "kern -5sp": lambda it: it.kern(-5),
-            "glue 1sp plus 1.0fil minus -0.5filll": lambda it: it.glue(1, fil, half),
-            "glue 1sp minus 2sp": lambda it: it.glue(1, minus=2),
-            "glue 0sp": lambda it: it.glue(0),
-            "penalty -10000": lambda it: it.penalty(-10_000),
-            "special x y ": lambda it: it.special(b"x y "),
-            "text  a  ": lambda it: it.text(" a  "),
-            "text ": lambda it: it.text(""),
-            "char 255": lambda it: it.char(255),
-            "box 7 shift -2sp": lambda it: it.box(7, shift=-2),
-            "copy 7": lambda it: it.copy(7),
-            "unhbox 1": lambda it: it.unhbox(1),
-            "unhcopy 2": lambda it: it.unhcopy(2),
-            "unvbox 3": lambda it: it.unvbox(3),
-            "unvcopy 4": lambda it: it.unvcopy(4),
-            "lastbox 5": lambda it: it.lastbox(5),
-            "vsplit 1 to 2sp into 3": lambda it: it.vsplit(1, to=2, into=3),
-            "measure 32767": lambda it: it.measure(32767),
-            "void 0": lambda it: it.void(0),
-            "count 9 -2147483648": lambda it: it.count(9, -1 << 31),
-            "ship 3": lambda it: it.ship(3),
-            "use 255": lambda it: it.use(255),
-            "par": lambda it: it.par(),
-            "hbox": lambda it: it.hbox(),
-            "vbox to 7sp": lambda it: it.vbox(to=7),
-            "vtop spread -7sp into 9": lambda it: it.vtop(spread=-7, into=9),
-            "hbox into 0": lambda it: it.hbox(into=0),
-            "font 0 a.b-c_D at 655360sp": lambda it: it.load("a.b-c_D", at=pt(10)),
-            "font 255 x": lambda it: it.load("x", slot=255),
-            "set parfillskip 1sp plus 1.0fil": lambda it: it.set(parfillskip=Glue(1, fil)),
-            "set baselineskip 3sp": lambda it: it.set(baselineskip=3),
-            "set firstlines 32": lambda it: it.set(firstlines=32),
-            "set widowpenalty -500000000": lambda it: it.set(widowpenalty=-500_000_000),
-        }
-        for text, call in calls.items():
+        for text, call in CALLS.items():
             batch = job_of(self).batch()
             batch.__enter__()
             call(batch)
@@ -867,27 +887,7 @@ class Encodings(unittest.TestCase):
         ):
             for name, codes in re.findall(form, self.texmf(file)):
                 names.setdefault(name, "".join(chr(int(it, 16)) for it in codes.split()))
-        # What the lists lack, and letters and signs of which Unicode has two.
-        names |= {
-            "mho": "℧",
-            "ohm": "\u03a9",
-            "permyriad": "‱",
-            "baht": "฿",
-            "servicemark": "℠",
-            "copyleft": "🄯",
-            "published": "℗",
-            "one.superior": "¹",
-            "two.superior": "²",
-            "three.superior": "³",
-            "circlecopyrt": "◯",
-            "mapsto": "↦",
-            "bardbl": "‖",
-            "Delta": "\u0394",
-            "Omega": "\u03a9",
-            "phi": "ϕ",
-            "phi1": "φ",
-            "o": "\u03bf",
-        }
+        names |= SYMBOLS
         for file, encoding, others in (
             ("lm-ts1.enc", boxglue.TS1, {}),
             ("lm-mathsy.enc", boxglue.OMS, {"openbullet": "∘"}),

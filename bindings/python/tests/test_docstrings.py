@@ -108,7 +108,8 @@ class Docstrings(unittest.TestCase):
             job.hbox(into=0)
             self.assertFalse(job.finish().accepted)
             self.assertRaisesRegex(boxglue.Refused, "ListsOpen", lambda: job.finish().check())
-        self.assertRegex(boxglue.Job.finish.__doc__, r"not raise a refusal.*finish\(\)\.check\(\)")
+        said = " ".join(boxglue.Job.finish.__doc__.split())
+        self.assertRegex(said, r"not raise a refusal.*finish\(\)\.check\(\)")
 
     def test_lengths(self):
         """A size says that it is in scaled points, by an example with a unit."""

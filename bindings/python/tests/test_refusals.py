@@ -129,13 +129,13 @@ class OpenLists(unittest.TestCase):
             page.end()
             with self.assertRaises(boxglue.Refused) as caught, job.batch() as it:
                 with it.hbox():
-                    it.kern(1)
+                    line = this_line() - 1
                     it.unvbox(9)
             self.assertEqual(
                 [(one.form, one.line) for one in caught.exception.open_lists],
                 [("vbox", 2), ("hbox", 6)],
             )
-            self.assertEqual(caught.exception.open_lists[1].caller, (__file__, line + 11))
+            self.assertEqual(caught.exception.open_lists[1].caller, (__file__, line))
             self.assertEqual(self.lists(job.commands("text a\nend").refusals[0]), [("vbox", 2)])
             self.assertTrue(job.finish().accepted)
 
