@@ -231,8 +231,8 @@ def metrics(work):
 
 
 def judge_damaged(work, first, batch, together, notes):
-    """Gives damaged files, each with what was done to it and its listing, to boxglue and to tex, and
-    counts who reads them."""
+    """Gives damaged files, each with what was done to it and its listing, to boxglue and to tex,
+    and counts who reads them."""
     names = [name for (name, _), _ in batch]
     script = "".join("font %d %s\n" % it for it in enumerate(names))
     fonts = ["%s=%s.tfm" % (it, it) for it in names]
