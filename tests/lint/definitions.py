@@ -57,11 +57,9 @@ def names_of(found):
 def reached(tree, given):
     """What is wrong with what a definition reaches."""
     found, wanted = {*names_of(tree.order(tree.by_name(given)))}, {*REACHED[given].split()}
-    return (
-        None
-        if found == wanted
-        else f"{given}: not by hand {sorted(found - wanted)}, by hand alone {sorted(wanted - found)}"
-    )
+    if found == wanted:
+        return None
+    return f"{given}: not by hand {sorted(found - wanted)}, by hand alone {sorted(wanted - found)}"
 
 
 def believed(tree):

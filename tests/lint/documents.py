@@ -240,11 +240,11 @@ def speed(root):
             for it in sorted(os.listdir(folder))
             if read(f"{folder}/{it}") != read(f"{root}/docs/{it}")
         ]
-    return (
-        f"another run of bench/tables.py and bench/charts.py gives another {', '.join(other)}"
-        if other
-        else None
-    )
+    if other:
+        return (
+            f"another run of bench/tables.py and bench/charts.py gives another {', '.join(other)}"
+        )
+    return None
 
 
 def measured(root):
@@ -317,11 +317,11 @@ def figures_of_manual(root):
         for it, values in found
     ]
     wrong = [pattern for (pattern, _), it in zip(wanted, right) if not it]
-    return (
-        f"docs/boxglue.1 does not have the figures of docs/speed.tsv in {' and '.join(wrong)}"
-        if wrong
-        else None
-    )
+    if wrong:
+        return (
+            f"docs/boxglue.1 does not have the figures of docs/speed.tsv in {' and '.join(wrong)}"
+        )
+    return None
 
 
 def figures(text):
@@ -360,11 +360,9 @@ def edits(root):
         for folder in ("must-fail", "wrong-bodies")
     ]
     line = f"{counts[0]} edits are in `must-fail/`, {counts[1]} in `wrong-bodies/`."
-    return (
-        None
-        if line in read(f"{root}/docs/internal/EVIDENCE.md").splitlines()
-        else f"docs/internal/EVIDENCE.md has no line {line!r}"
-    )
+    if line in read(f"{root}/docs/internal/EVIDENCE.md").splitlines():
+        return None
+    return f"docs/internal/EVIDENCE.md has no line {line!r}"
 
 
 def cases(_programs, root):

@@ -125,11 +125,9 @@ def functions(root):
     """What is wrong with the functions."""
     found = functions_of(declared(root))
     wanted = list(exports(root))
-    return (
-        None
-        if wanted and found == wanted
-        else f"the header declares {found}, and the exports are {wanted}"
-    )
+    if wanted and found == wanted:
+        return None
+    return f"the header declares {found}, and the exports are {wanted}"
 
 
 def address_call(kind, name, size):
@@ -198,11 +196,9 @@ def structs(root):
         name: [it.strip() for it in fields.split(";") if it.strip()]
         for name, fields in re.findall(r"(struct boxglue_\w+) \{([^}]*)\};", declared(root))
     }
-    return (
-        None
-        if wanted and found == wanted
-        else f"the header has {found}, and the calls have {wanted}"
-    )
+    if wanted and found == wanted:
+        return None
+    return f"the header has {found}, and the calls have {wanted}"
 
 
 def spelled(name):
@@ -217,11 +213,9 @@ def numbers(root, enum, prefix, *sources, row=r"const (\w+): u32 = (\d+);"):
     )
     rows = re.findall(row, "".join(read(f"{root}/{it}") for it in sources))
     wanted = [(spelled(name), number) for name, number in rows]
-    return (
-        None
-        if wanted and found == sorted(wanted, key=lambda it: int(it[1]))
-        else f"the header has {found}, and the calls have {wanted}"
-    )
+    if wanted and found == sorted(wanted, key=lambda it: int(it[1])):
+        return None
+    return f"the header has {found}, and the calls have {wanted}"
 
 
 def statuses(root):
@@ -533,11 +527,9 @@ def interface_wrong(text, rows, number, released):
         not in rows.get(it, [])
     ]
     late = [it for it in rows if [*map(int, it.split("."))] > [*map(int, number.split("."))]]
-    return (
-        f"{INTERFACE} has other rows for {', '.join(wrong + late)} than when it was released: raise the number by tools/version.py"
-        if wrong + late
-        else None
-    )
+    if wrong + late:
+        return f"{INTERFACE} has other rows for {', '.join(wrong + late)} than when it was released: raise the number by tools/version.py"
+    return None
 
 
 def interface(root):

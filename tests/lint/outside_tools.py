@@ -55,11 +55,9 @@ def not_listed(root):
 def not_named(root):
     """Tools of the list that stand in no part."""
     more = [it for it in listed(root) if f'"{it}"' not in sources(root)]
-    return (
-        f"docs/internal/GATE.md lists {', '.join(more)}, which no case needs"
-        if more or not listed(root)
-        else None
-    )
+    if more or not listed(root):
+        return f"docs/internal/GATE.md lists {', '.join(more)}, which no case needs"
+    return None
 
 
 def held(root):
@@ -71,11 +69,9 @@ def held(root):
         ("d", f"{tool} is not there"),
         ("e", "no"),
     ]
-    return (
-        None
-        if others([right, *wrong], root) == wrong
-        else "the gate takes a skip for another reason"
-    )
+    if others([right, *wrong], root) == wrong:
+        return None
+    return "the gate takes a skip for another reason"
 
 
 def cases(_programs, root):

@@ -83,11 +83,9 @@ def difference(row, decided, demerits, lines):
     found = [str(decided), *([str(demerits), counts_of(lines)] if decided < 3 else ["0", ""])]
     wanted = row[3:]
     if " ".join(row[:3]) in TIES:
-        return (
-            None
-            if found[:2] == wanted[:2] and found[2] != wanted[2]
-            else f"it is no tie: {found}, and TeX has {wanted}"
-        )
+        if found[:2] == wanted[:2] and found[2] != wanted[2]:
+            return None
+        return f"it is no tie: {found}, and TeX has {wanted}"
     return None if found == wanted else f"{found}, and TeX has {wanted}"
 
 

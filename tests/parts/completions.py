@@ -149,11 +149,9 @@ def paths_of_bash(root):
         ("other", ""),
     ]
     found = [bash_words(path, *words) for words in lines]
-    return (
-        None
-        if found == [{f"{root}/examples/plain.tfm"}, set(), set(), set()]
-        else f"bash completes {found}"
-    )
+    if found == [{f"{root}/examples/plain.tfm"}, set(), set(), set()]:
+        return None
+    return f"bash completes {found}"
 
 
 def cases(programs, root):

@@ -58,11 +58,9 @@ def outcome(root):
         write(f"{folder}/crates/my_pages/src/main.rt", program)
         status, output, errors = run_tried(["bash", "-euc", tried], folder)
         wanted = f"{ANSWERS}{last}\n"
-        return (
-            None
-            if (status, wanted in output.decode(errors="replace")) == (0, True)
-            else f"the status is {status}: {last_lines(errors)}; it prints {output[-200:]!r}"
-        )
+        if (status, wanted in output.decode(errors="replace")) == (0, True):
+            return None
+        return f"the status is {status}: {last_lines(errors)}; it prints {output[-200:]!r}"
 
 
 def cases(_programs, root):

@@ -429,11 +429,9 @@ def knows_what_is_left(_root):
             if {*found.under_way()} != {*names} or abs(found.seconds_left() - left) > 1:
                 return f"after {text!r}: {found.under_way()}, {found.seconds_left()} s"
         write(f"{room}/crates/right/out/rlib/stamp", "")
-        return (
-            None
-            if found.failed() == ["left", "other"] or found.failed() == ["other", "left"]
-            else f"these have failed: {found.failed()}"
-        )
+        if found.failed() == ["left", "other"] or found.failed() == ["other", "left"]:
+            return None
+        return f"these have failed: {found.failed()}"
 
 
 def fits_a_control_group(_root):

@@ -33,10 +33,10 @@ def wrong_in(words, printed, named, program):
         made = sorted(set(os.listdir(folder)) - {"f.dvi"})
     expected = (1, printed, f"boxglue: cannot read {named}\n{READ_LIMIT}\n", [])
     found = (ran.returncode, ran.stdout, ran.stderr, made)
+    if found == expected:
+        return None
     return (
-        None
-        if found == expected
-        else f"status, output, errors with the number of calls, and files are {found} and not {expected}"
+        f"status, output, errors with the number of calls, and files are {found} and not {expected}"
     )
 
 

@@ -50,11 +50,9 @@ NO_NETWORK = {
 
 def lacks_pip():
     """The result of a case that needs pip, if it is not there."""
-    return (
-        without("pip")
-        if finished([sys.executable, "-m", "pip", "--version"], timeout=LIMIT).returncode
-        else None
-    )
+    if finished([sys.executable, "-m", "pip", "--version"], timeout=LIMIT).returncode:
+        return without("pip")
+    return None
 
 
 def stand_in(root, path, is_proved, value=None):
@@ -170,11 +168,9 @@ def refused_wheel(source, words, why, room, **env):
     if not ran.returncode or wheels_in(f"{room}/refused"):
         return f"pip makes the wheels {[*wheels_in(f'{room}/refused')]}"
     said = f"{ran.stdout}{ran.stderr}"
-    return (
-        None
-        if why in said and "Traceback" not in said
-        else f"pip does not say {why!r} alone: {said[-600:]}"
-    )
+    if why in said and "Traceback" not in said:
+        return None
+    return f"pip does not say {why!r} alone: {said[-600:]}"
 
 
 def backend_wrong(root, prefix, said, room):
@@ -328,11 +324,9 @@ def loader_wrong(root, prefix, said, room):
         run(words, room, **env, **loader_path(system)),
         run(words, room, **env, **loader_path(system), BOXGLUE_LIBRARY=planted),
     ]
-    return (
-        None
-        if found == [b"1.2.1 1\n", b"1.2.2 0\n", b"1.9.99 1\n"]
-        else f"the system's library, the package's and the named one say {found}"
-    )
+    if found == [b"1.2.1 1\n", b"1.2.2 0\n", b"1.9.99 1\n"]:
+        return None
+    return f"the system's library, the package's and the named one say {found}"
 
 
 def cases(programs, root):

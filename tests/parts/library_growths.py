@@ -76,11 +76,9 @@ def count_wrong(output, counted=COUNTED):
     if not found:
         return f"the program printed {output[:200]!r}"
     growths, *ways = map(int, found.groups())
-    return (
-        None
-        if growths and sum(ways) == growths
-        else f"{growths} growths were refused, and {sum(ways)} calls ended"
-    )
+    if growths and sum(ways) == growths:
+        return None
+    return f"{growths} growths were refused, and {sum(ways)} calls ended"
 
 
 def growths_wrong(root, archive, name):
@@ -126,11 +124,9 @@ def frees_wrong(root, archive, name):
         output = run_calls(root, archive, room, ["frees", "script", *room.fonts]).decode()
     found = FREED.fullmatch(output)
     jobs = 2 * (given.script.count(b"\n") + 1)
-    return (
-        None
-        if found and int(found[1]) == jobs and int(found[2]) > 1
-        else f"the program printed {output[:200]!r}, and {jobs} jobs are wanted"
-    )
+    if found and int(found[1]) == jobs and int(found[2]) > 1:
+        return None
+    return f"the program printed {output[:200]!r}, and {jobs} jobs are wanted"
 
 
 def handles_wrong(root, archive):

@@ -80,11 +80,9 @@ def model(root, name, archive):
             )
         # A file that is refused before anything is allocated has no growths.
         refused = run_calls(root, archive, room, ["--refuse", "metrics", "0", "one.tfm"])
-        return (
-            None
-            if refused == NO_GROWTHS and wanted(data, 0).startswith("status 1")
-            else count_wrong(refused)
-        )
+        if refused == NO_GROWTHS and wanted(data, 0).startswith("status 1"):
+            return None
+        return count_wrong(refused)
 
 
 def in_python(root, archive, _folder):

@@ -77,11 +77,9 @@ def page_wrong(root, words, room, **env):
     """What is wrong with a program that makes the page of README.md, or None."""
     answers = run([*words, f"{root}/{METRICS}", "page.dvi"], room, **env)
     size = os.path.getsize(f"{room}/page.dvi")
-    return (
-        None
-        if answers.endswith(END) and size == SIZE
-        else f"the answers end with {answers[-40:]!r}, and the file has {size} bytes"
-    )
+    if answers.endswith(END) and size == SIZE:
+        return None
+    return f"the answers end with {answers[-40:]!r}, and the file has {size} bytes"
 
 
 def page_in_c(is_static, root, prefix, _said, room):
@@ -236,11 +234,9 @@ def wheel_wrong(root, prefix, said, room):
             name: (record_digest(it.read(name)), str(len(it.read(name))))
             for name in it.namelist()[:-1]
         }
-        return (
-            None
-            if rows == {**found, it.namelist()[-1]: ("", "")}
-            else "the record is not that of the files"
-        )
+        if rows == {**found, it.namelist()[-1]: ("", "")}:
+            return None
+        return "the record is not that of the files"
 
 
 def record_digest(data):
@@ -260,11 +256,9 @@ def stage_wrong(root, archive, program):
             for it in paths
             if room.encode() in content(it) or not it.startswith(f"{room}/stage/opt/boxglue/")
         ]
-        return (
-            f"these files name DESTDIR, or are not below the prefix: {wrong}"
-            if wrong or len(paths) < 20
-            else None
-        )
+        if wrong or len(paths) < 20:
+            return f"these files name DESTDIR, or are not below the prefix: {wrong}"
+        return None
 
 
 def outcome(call, root, archive=None, program=None, *_programs):

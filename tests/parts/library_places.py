@@ -277,11 +277,9 @@ def dynamic_of(data):
 def bound_now(root, prefix, said, room):
     """Whether the loader binds all symbols of the shared object before it runs."""
     found = dynamic_of(content(f"{prefix}/lib/libboxglue.so"))
-    return (
-        None
-        if any(found.get(tag, 0) & bit for tag, bit in BINDS_NOW.items())
-        else f"the flags are {[found.get(tag) for tag in BINDS_NOW]}"
-    )
+    if any(found.get(tag, 0) & bit for tag, bit in BINDS_NOW.items()):
+        return None
+    return f"the flags are {[found.get(tag) for tag in BINDS_NOW]}"
 
 
 def in_c89(root, prefix, said, room):
@@ -296,11 +294,9 @@ def in_c89(root, prefix, said, room):
     run([compiler(), *flags, "-o", "calls", "calls.c", "-lboxglue"], room)
     run([f"{room}/calls"], room, LD_LIBRARY_PATH=f"{prefix}/lib")
     text = " ".join(read(f"{prefix}/include/boxglue.h").replace("\n *", " ").split())
-    return (
-        None
-        if "Strict C89 has no inline functions, and needs BOXGLUE_NO_INLINE." in text
-        else "the header does not say what strict C89 needs"
-    )
+    if "Strict C89 has no inline functions, and needs BOXGLUE_NO_INLINE." in text:
+        return None
+    return "the header does not say what strict C89 needs"
 
 
 def with_own_prefix(call, archive, program, root, _prefix, _said, room):

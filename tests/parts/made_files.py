@@ -21,11 +21,9 @@ def outcome(root, path, script):
     if script == BOXES and lacks("tex"):
         return lacks("tex")
     ran = finished([sys.executable, "-B", f"{root}/{script}"])
-    return (
-        None
-        if ran.returncode == 0 and ran.stdout == content(f"{root}/{path}")
-        else f"{script} prints another file, status {ran.returncode}"
-    )
+    if ran.returncode == 0 and ran.stdout == content(f"{root}/{path}"):
+        return None
+    return f"{script} prints another file, status {ran.returncode}"
 
 
 def cases(programs, root):

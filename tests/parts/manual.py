@@ -120,11 +120,9 @@ def library(root):
     if here != there or not here:
         return f"these are not in both: {sorted(here ^ there)}"
     ran = finished([sys.executable, "-B", f"{root}/tools/library_page.py", "--check"], text=True)
-    return (
-        None
-        if ran.returncode == 0
-        else f"tools/library_page.py writes another page: {ran.stderr[-200:]}"
-    )
+    if ran.returncode == 0:
+        return None
+    return f"tools/library_page.py writes another page: {ran.stderr[-200:]}"
 
 
 def typed_calls(root):

@@ -74,11 +74,9 @@ def one_wrong(programs, root):
     if wrong or sorted(os.listdir(out)) != wanted:
         return wrong or f"{out} has other files than a DVI file for each document but {REFUSED}"
     said = read(f"{out}/{REFUSED}.refused")
-    return (
-        None
-        if said == "line 11: refused 21 VoidBox: 'ship 1'\n"
-        else f"document {REFUSED}: {said!r}"
-    )
+    if said == "line 11: refused 21 VoidBox: 'ship 1'\n":
+        return None
+    return f"document {REFUSED}: {said!r}"
 
 
 def engine_wrong(programs, root, engine):

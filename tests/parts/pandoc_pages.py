@@ -278,11 +278,9 @@ def manual(programs, root):
         count = int(SUMMARY.search(said)[1])
         if made.returncode or made.stderr.strip():
             return f"dvipdfmx says {last_lines(made.stderr)}"
-        return (
-            None
-            if count > MANUAL and SUMMARY.search(said)[2] == "0"
-            else f"{count} pages: {SUMMARY.search(said)[0]}"
-        )
+        if count > MANUAL and SUMMARY.search(said)[2] == "0":
+            return None
+        return f"{count} pages: {SUMMARY.search(said)[0]}"
 
 
 def checked(check, programs, root):

@@ -118,11 +118,9 @@ def figures(root):
             if lost
             else "docs/FAQ.md has lost figures"
         )
-    return (
-        None
-        if round(most / nodes, -1) == pages
-        else f"{most:,} nodes are {most // nodes:,} pages of {nodes:,}"
-    )
+    if round(most / nodes, -1) == pages:
+        return None
+    return f"{most:,} nodes are {most // nodes:,} pages of {nodes:,}"
 
 
 def glossary(root):

@@ -78,11 +78,9 @@ def asks_rt(text, is_silent, wanted, root):
             "PYTHONDONTWRITEBYTECODE": "1",
         }
         status, output, errors = run([sys.executable, "-c", QUESTION], room, **env)
-        return (
-            None
-            if wanted in output + errors and (status == 0) == (wanted == "0 of the 2 proofs")
-            else f"the status is {status}: {(output + errors)[-300:]!r}"
-        )
+        if wanted in output + errors and (status == 0) == (wanted == "0 of the 2 proofs"):
+            return None
+        return f"the status is {status}: {(output + errors)[-300:]!r}"
 
 
 def made_clone(root, archive, program, room):
@@ -132,13 +130,9 @@ def released(root, archive=None, program=None, *_programs):
         with open(f"{clone}/crates/boxglue_c/out/libboxglue_c.a", "ab") as it:
             it.write(b"\n")
         status, output, errors = run([f"{clone}/tools/release", f"{room}/other"], room, **env)
-        return (
-            None
-            if status == 1
-            and "proves nothing: lib" in errors
-            and not os.path.exists(f"{room}/other")
-            else f"another archive: the status is {status}: {(errors or output)[-300:]!r}"
-        )
+        if status == 1 and "proves nothing: lib" in errors and not os.path.exists(f"{room}/other"):
+            return None
+        return f"another archive: the status is {status}: {(errors or output)[-300:]!r}"
 
 
 def cases(programs, root):

@@ -297,13 +297,13 @@ def changed_inside(made):
         top = unpacked(made, room)
         write(f"{top}/include/boxglue.h", content(f"{top}/include/boxglue.h") + b"\n")
         status, errors = placed(made, room, "--prefix", f"{room}/here")
-        return (
-            None
-            if status == 1
+        if (
+            status == 1
             and "nothing is put in place" in errors
             and not os.path.exists(f"{room}/here")
-            else f"a changed file: the status is {status}: {errors[-200:]!r}"
-        )
+        ):
+            return None
+        return f"a changed file: the status is {status}: {errors[-200:]!r}"
 
 
 def placed(made, room, *words, **env):
@@ -392,13 +392,9 @@ def refuses_changes(root, made):
         write(f"{clone}/more", b"more\n")
         status, _, errors = run([f"{clone}/tools/release", "--unproved", f"{room}/out"], room)
         again = run([f"{clone}/tools/release", "--unproved", made], room)[0]
-        return (
-            None
-            if (status, again) == (1, 2)
-            and "?? more" in errors
-            and not os.path.exists(f"{room}/out")
-            else f"the statuses are {status} and {again}: {errors[-200:]!r}"
-        )
+        if (status, again) == (1, 2) and "?? more" in errors and not os.path.exists(f"{room}/out"):
+            return None
+        return f"the statuses are {status} and {again}: {errors[-200:]!r}"
 
 
 def cases(programs, root):

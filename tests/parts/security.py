@@ -64,11 +64,9 @@ def in_python(root, archive, *_programs):
         ):
             write(f"{path}/out/{name}", made)
         ran = finished(words, cwd=path, env=env, text=True)
-    return (
-        None
-        if (ran.returncode, ran.stdout) == (0, wanted) and PYTHON in text
-        else f"the status is {ran.returncode}: {(ran.stderr or ran.stdout)[-200:]!r}"
-    )
+    if (ran.returncode, ran.stdout) == (0, wanted) and PYTHON in text:
+        return None
+    return f"the status is {ran.returncode}: {(ran.stderr or ran.stdout)[-200:]!r}"
 
 
 def limited(program, words, script, **limits):

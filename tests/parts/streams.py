@@ -116,11 +116,9 @@ def output_that_does_not_wait(program):
                 time.sleep(0.001)
             os.close(reading)
             errors = started.communicate(timeout=LIMIT)[1]
-    return (
-        None
-        if (started.returncode, errors) == (0, b"") and found == answers
-        else f"the status is {started.returncode}, and {len(found)} of {len(answers)} bytes came"
-    )
+    if (started.returncode, errors) == (0, b"") and found == answers:
+        return None
+    return f"the status is {started.returncode}, and {len(found)} of {len(answers)} bytes came"
 
 
 def cases(programs, root):

@@ -24,11 +24,9 @@ def program_wrong(root):
     line = re.search(
         r'VERSION_LINE: &str = "(boxglue \S+) ', read(f"{root}/crates/boxglue_words/src/task.rt")
     )[1]
-    return (
-        None
-        if (ran.returncode, ran.stdout) == (0, f"{line} {SAYS}\n")
-        else f"the status is {ran.returncode}, and it prints {ran.stdout!r}"
-    )
+    if (ran.returncode, ran.stdout) == (0, f"{line} {SAYS}\n"):
+        return None
+    return f"the status is {ran.returncode}, and it prints {ran.stdout!r}"
 
 
 def library_wrong(root):
@@ -37,11 +35,9 @@ def library_wrong(root):
     need("nm")
     ran = finished(["nm", "--defined-only", archive], text=True, check=True)
     found, wanted = {*SYMBOL.findall(ran.stdout)}, {*calls(root), "boxglue_unproved"}
-    return (
-        None
-        if found == wanted
-        else f"these names are in the library or the header alone: {sorted(found ^ wanted)}"
-    )
+    if found == wanted:
+        return None
+    return f"these names are in the library or the header alone: {sorted(found ^ wanted)}"
 
 
 def cases(_programs, root):

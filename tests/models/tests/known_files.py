@@ -202,11 +202,9 @@ def file_wrong(pages, height, width, parts, post, length):
 def body_wrong(text, must_be):
     """Returns how the bytes of a body differ from the expected ones, or None."""
     found = spelled(pruned(moves(text)), Registers())
-    return (
-        None
-        if found == bytes.fromhex(must_be)
-        else f"the bytes are {found.hex(' ')} and not {must_be}"
-    )
+    if found == bytes.fromhex(must_be):
+        return None
+    return f"the bytes are {found.hex(' ')} and not {must_be}"
 
 
 def cases(programs, root):
