@@ -285,7 +285,8 @@ def main(root, given):
     parts = chosen(parser, words, root)
     if words.list:
         by_name = sorted(parts, key=lambda it: it.name)
-        print("".join(f"{it.name:21}{it.title}\n" for it in by_name), end="")
+        width = max(len(it.name) for it in by_name) + 2
+        print("".join(f"{it.name:{width}}{it.title}\n" for it in by_name), end="")
         return 0
     if words.gate and not (words.program and words.rows and words.library):
         parser.error("--gate needs --program, --rows and --library")
