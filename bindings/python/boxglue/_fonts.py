@@ -75,8 +75,8 @@ class FontFolder(Mapping[str, bytes]):
     def _look_for(self, names: list[str]) -> None:
         """Reads the files of these names that were not looked for yet."""
         new = [it for it in names if it not in self._files]
-        # A DVI file may name any bytes; a name is no path out of the folder, and no option of a
-        # program.
+        # A DVI file may name any bytes. A name must not lead out of the folder, or become an option
+        # of a program.
         paths = {it: self._path(it) for it in new if isinstance(it, str) and _NAME.fullmatch(it)}
         far = [it for it, path in paths.items() if path is None]
         if far and self._kpsewhich:

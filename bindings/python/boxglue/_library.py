@@ -376,8 +376,8 @@ def given_fonts(given: Fonts) -> tuple[Any, int]:
 
 
 def one_output(call: Callable[..., int], room: int) -> tuple[int, bytes]:
-    """The status and the output of a call with one buffer, which is made again where the buffer is
-    too small."""
+    """Calls with a buffer, and again with a larger one if it was too small. Returns the status and
+    the output."""
     size = c_size_t()
     while True:
         buffer = new_buffer(room)

@@ -158,8 +158,8 @@ class Refused(BoxglueError):
         return hash(self._parts)
 
     def __reduce__(self) -> tuple[type[Refused], tuple[object, ...]]:
-        # By default an exception is made again from its message alone, which fails; a worker of a
-        # process pool that raises it would hang the pool.
+        # By default pickle makes an exception again only from its message, which fails here. A
+        # worker of a process pool that raises such an exception would hang the pool.
         return type(self), (*self._parts, self.command, self.caller, self.open_lists, self.hint)
 
 

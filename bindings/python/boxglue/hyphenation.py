@@ -41,7 +41,7 @@ __all__ = [
     "without_hyphens",
 ]
 
-# TeX looks at the first letters of a word alone.
+# TeX looks only at the first letters of a word.
 MOST_LETTERS = 63
 _COMMENT = re.compile(r"%.*")
 _GROUP = re.compile(r"\\(patterns|hyphenation)\s*\{([^{}]*)\}")
@@ -179,7 +179,7 @@ class Patterns:
 
         Args:
             paths: The files, in UTF-8.
-            exceptions: Words with all their hyphens, which come before those of the files.
+            exceptions: Words with all their hyphens. They override the files' exceptions.
             left: As for Patterns; None is the number in the comments of the file, as in
                 hyph-de-1996.tex, or 2.
             right: The same, or 3.
@@ -282,8 +282,8 @@ def by_pyphen(language: str, *, left: int = 2, right: int = 2) -> Rule:
         The rule.
 
     Raises:
-        ImportError: There is no pyphen (Debian's package python3-pyphen).
-        KeyError: It has no such dictionary.
+        ImportError: pyphen is not installed (Debian's package python3-pyphen).
+        KeyError: pyphen has no such dictionary.
     """
     from importlib import import_module
 

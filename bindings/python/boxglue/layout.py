@@ -181,8 +181,8 @@ def entry(
     step: int = pt(5),
     space: int = pt(30),
 ) -> None:
-    """Makes an entry of a contents from a line: dots after its text, which stand below those of
-    other entries, and the number of a page at the right.
+    """Makes a line into an entry of a table of contents. Dots follow its text, aligned with the
+    dots of other entries, and a page's number stands at the right.
 
     Args:
         job: The job.

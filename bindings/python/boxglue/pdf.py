@@ -104,10 +104,10 @@ def place(name: str) -> str:
 
 
 def bookmark(level: int, title: str, name: str | None = None) -> str:
-    """Returns the special of a bookmark. It is open for those of deeper levels after it.
+    """Returns the special of a bookmark, which shows the deeper bookmarks after it.
 
     Args:
-        level: Its level, from 1, at most one more than that of the bookmark before it.
+        level: Its level, from 1, at most one more than the previous bookmark's level.
         title: Its title.
         name: The name of the place to which it leads; None leads nowhere.
 
@@ -154,7 +154,7 @@ def picture(path: str | os.PathLike[str], width: int, height: int) -> Picture | 
         height: The most height.
 
     Returns:
-        The picture; None if there is no such file, or if a special cannot have its name.
+        The picture. None if the file does not exist, or a special cannot have its name.
 
     Raises:
         OSError: The file cannot be read.
@@ -172,9 +172,8 @@ def picture(path: str | os.PathLike[str], width: int, height: int) -> Picture | 
 
 
 def left_open(specials: Iterable[bytes], before: Iterable[bytes] = ()) -> list[bytes]:
-    """Returns the links and colours that are open after specials, such as those of a line or a
-    page. `end_of` ends each of them, from the last one on; after the end of the line they have to
-    be sent again.
+    """Returns the links and colours that are still open after the specials of a line or a page.
+    End each by `end_of`, the last one first, and send them again after the end of the line.
 
     Args:
         specials: The specials, in order.

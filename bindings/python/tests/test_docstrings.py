@@ -8,7 +8,7 @@ import unittest
 import boxglue
 from boxglue import families, hyphenation, layout, pdf
 
-# Calls by which a function raises what it finds: those of commands and of the library.
+# Calls of commands and of the library by which a function raises a fault.
 RAISES = re.compile(
     r"\braise (?!$)|\bfail\(|\blibrary\(\)|self\._(?:ok|added|text|split|measured|shipped|load|box|paragraph|check)\("
 )
