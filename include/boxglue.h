@@ -161,9 +161,9 @@ struct boxglue_mark {
     int32_t font;
     /** A glyph's character. */
     int32_t code;
-    /** The place to the right. The place of a rule is its lower left corner. */
+    /** How far the mark is to the right of the page's origin. The place of a rule is its lower left corner. */
     int32_t h;
-    /** The place downward. */
+    /** How far the mark is below the page's origin. */
     int32_t v;
     /** A rule's height, above 0. */
     int32_t height;
@@ -289,9 +289,9 @@ struct boxglue_font_step {
  * @param answers, answers_room  a buffer for the answers to the commands, one line each (docs/FORMATS.md), or for the one line of a script that is refused as a whole
  * @param dvi, dvi_room  a buffer for the bytes of the DVI file. A script that ships no page has none. If the end was refused, the bytes are not a DVI file: they are
  *        the pages without the end of the file, or after Device a beginning of the file
- * @param lengths  the sizes of both outputs, or at BOXGLUE_BUFFER_TOO_SMALL what both buffers need. The rest of each buffer is unchanged
- * @return BOXGLUE_ACCEPTED, BOXGLUE_REFUSED, BOXGLUE_OUT_OF_MEMORY, BOXGLUE_BAD_FONT_NAME, BOXGLUE_BUFFER_TOO_SMALL or BOXGLUE_REFUSED_MEMORY. At
- *         BOXGLUE_OUT_OF_MEMORY and BOXGLUE_BAD_FONT_NAME *lengths is unchanged
+ * @param lengths  the sizes of both outputs, or on BOXGLUE_BUFFER_TOO_SMALL the sizes that the buffers need. The rest of each buffer is unchanged
+ * @return BOXGLUE_ACCEPTED, BOXGLUE_REFUSED, BOXGLUE_OUT_OF_MEMORY, BOXGLUE_BAD_FONT_NAME, BOXGLUE_BUFFER_TOO_SMALL or BOXGLUE_REFUSED_MEMORY.
+ *         BOXGLUE_OUT_OF_MEMORY and BOXGLUE_BAD_FONT_NAME leave *lengths unchanged
  */
 uint32_t boxglue_run(const uint8_t *script, size_t script_size,
                      const struct boxglue_font *fonts, size_t font_count,
@@ -305,9 +305,9 @@ uint32_t boxglue_run(const uint8_t *script, size_t script_size,
  * @param dvi, dvi_size  the DVI file
  * @param fonts, font_count  the fonts that its pages may select
  * @param text, text_room  a buffer for the listing (docs/FORMATS.md), or for the line of the refusal
- * @param size  the number of bytes of the text, or at BOXGLUE_BUFFER_TOO_SMALL what the buffer needs. The rest of the buffer is unchanged
- * @return BOXGLUE_ACCEPTED, BOXGLUE_REFUSED, BOXGLUE_OUT_OF_MEMORY, BOXGLUE_BAD_FONT_NAME or BOXGLUE_BUFFER_TOO_SMALL. At BOXGLUE_OUT_OF_MEMORY and
- *         BOXGLUE_BAD_FONT_NAME *size is unchanged
+ * @param size  the number of bytes of the text, or on BOXGLUE_BUFFER_TOO_SMALL the size that the buffer needs. The rest of the buffer is unchanged
+ * @return BOXGLUE_ACCEPTED, BOXGLUE_REFUSED, BOXGLUE_OUT_OF_MEMORY, BOXGLUE_BAD_FONT_NAME or BOXGLUE_BUFFER_TOO_SMALL.
+ *         BOXGLUE_OUT_OF_MEMORY and BOXGLUE_BAD_FONT_NAME leave *size unchanged
  */
 uint32_t boxglue_list(const uint8_t *dvi, size_t dvi_size,
                       const struct boxglue_font *fonts, size_t font_count,
@@ -326,9 +326,9 @@ uint32_t boxglue_list(const uint8_t *dvi, size_t dvi_size,
  * @param width  the width of the bitmap in pixels, 1 to 10000
  * @param height  the height of the bitmap in pixels, 1 to 10000
  * @param text, text_room  a buffer for the bitmap as plain PBM (docs/FORMATS.md), or for the line of the refusal
- * @param size  the number of bytes of the text, or at BOXGLUE_BUFFER_TOO_SMALL what the buffer needs. The rest of the buffer is unchanged
+ * @param size  the number of bytes of the text, or on BOXGLUE_BUFFER_TOO_SMALL the size that the buffer needs. The rest of the buffer is unchanged
  * @return BOXGLUE_ACCEPTED, BOXGLUE_REFUSED, BOXGLUE_OUT_OF_MEMORY, BOXGLUE_BAD_FONT_NAME, BOXGLUE_BUFFER_TOO_SMALL, BOXGLUE_NO_SUCH_PAGE or BOXGLUE_OUT_OF_RANGE.
- *         *size is written only at BOXGLUE_ACCEPTED, BOXGLUE_REFUSED and BOXGLUE_BUFFER_TOO_SMALL
+ *         Only BOXGLUE_ACCEPTED, BOXGLUE_REFUSED and BOXGLUE_BUFFER_TOO_SMALL write *size
  */
 uint32_t boxglue_paint(const uint8_t *dvi, size_t dvi_size,
                        const struct boxglue_font *fonts, size_t font_count,
@@ -349,9 +349,9 @@ uint32_t boxglue_paint(const uint8_t *dvi, size_t dvi_size,
  * @param width  the width of the bitmap in pixels, 1 to 10000
  * @param height  the height of the bitmap in pixels, 1 to 10000
  * @param bits, bits_room  a buffer for the rows of the bitmap from the top, or for the line of the refusal
- * @param size  the number of bytes, or at BOXGLUE_BUFFER_TOO_SMALL what the buffer needs. The rest of the buffer is unchanged
+ * @param size  the number of bytes, or on BOXGLUE_BUFFER_TOO_SMALL the size that the buffer needs. The rest of the buffer is unchanged
  * @return BOXGLUE_ACCEPTED, BOXGLUE_REFUSED, BOXGLUE_OUT_OF_MEMORY, BOXGLUE_BAD_FONT_NAME, BOXGLUE_BUFFER_TOO_SMALL, BOXGLUE_NO_SUCH_PAGE or
- *         BOXGLUE_OUT_OF_RANGE. *size is written only at BOXGLUE_ACCEPTED, BOXGLUE_REFUSED and BOXGLUE_BUFFER_TOO_SMALL
+ *         BOXGLUE_OUT_OF_RANGE. Only BOXGLUE_ACCEPTED, BOXGLUE_REFUSED and BOXGLUE_BUFFER_TOO_SMALL write *size
  */
 uint32_t boxglue_paint_bits(const uint8_t *dvi, size_t dvi_size,
                             const struct boxglue_font *fonts, size_t font_count,
@@ -368,8 +368,8 @@ uint32_t boxglue_paint_bits(const uint8_t *dvi, size_t dvi_size,
  * @param dvi, dvi_size  the DVI file
  * @param fonts, font_room  a buffer for the fonts in the order of the file. A font that is defined twice comes twice. A file that is refused has no fonts
  * @param text, text_room  a buffer for their names, one after the other, or for the line of the refusal
- * @param sizes  the numbers of fonts and of bytes, or at BOXGLUE_BUFFER_TOO_SMALL what both buffers need. The rest of each buffer is unchanged
- * @return BOXGLUE_ACCEPTED, BOXGLUE_REFUSED, BOXGLUE_OUT_OF_MEMORY or BOXGLUE_BUFFER_TOO_SMALL. At BOXGLUE_OUT_OF_MEMORY *sizes is unchanged
+ * @param sizes  the numbers of fonts and of bytes, or on BOXGLUE_BUFFER_TOO_SMALL the sizes that the buffers need. The rest of each buffer is unchanged
+ * @return BOXGLUE_ACCEPTED, BOXGLUE_REFUSED, BOXGLUE_OUT_OF_MEMORY or BOXGLUE_BUFFER_TOO_SMALL. BOXGLUE_OUT_OF_MEMORY leaves *sizes unchanged
  */
 uint32_t boxglue_fonts(const uint8_t *dvi, size_t dvi_size,
                        struct boxglue_dvi_font *fonts, size_t font_room,
@@ -386,9 +386,10 @@ uint32_t boxglue_fonts(const uint8_t *dvi, size_t dvi_size,
  * @param pages, page_room  a buffer for the pages
  * @param marks, mark_room  a buffer for their marks, in the order of a listing
  * @param text, text_room  a buffer for the line of a refusal. A file that is refused has no pages and no marks, and its units are 0
- * @param sizes  the numbers of all three and the units, or at BOXGLUE_BUFFER_TOO_SMALL what the buffers need. The rest of each buffer is unchanged
- * @return BOXGLUE_ACCEPTED, BOXGLUE_REFUSED, BOXGLUE_OUT_OF_MEMORY, BOXGLUE_BAD_FONT_NAME or BOXGLUE_BUFFER_TOO_SMALL. At BOXGLUE_OUT_OF_MEMORY and
- *         BOXGLUE_BAD_FONT_NAME *sizes is unchanged
+ * @param sizes  the numbers of pages, marks and bytes of the text, and the file's units, or on BOXGLUE_BUFFER_TOO_SMALL the sizes that the buffers need.
+ *        The rest of each buffer is unchanged
+ * @return BOXGLUE_ACCEPTED, BOXGLUE_REFUSED, BOXGLUE_OUT_OF_MEMORY, BOXGLUE_BAD_FONT_NAME or BOXGLUE_BUFFER_TOO_SMALL.
+ *         BOXGLUE_OUT_OF_MEMORY and BOXGLUE_BAD_FONT_NAME leave *sizes unchanged
  */
 uint32_t boxglue_marks(const uint8_t *dvi, size_t dvi_size,
                        const struct boxglue_font *fonts, size_t font_count,
@@ -402,10 +403,10 @@ uint32_t boxglue_marks(const uint8_t *dvi, size_t dvi_size,
  *
  * @param dvi, dvi_size  the DVI file
  * @param fonts, font_count  the fonts that its pages may select
- * @param fault  the reason, or zeros if the file is accepted. At BOXGLUE_BUFFER_TOO_SMALL fault->name_size says what the buffer needs
+ * @param fault  the reason, or zeros if the file is accepted. If the buffer is too small, fault->name_size is the size that it needs
  * @param name, name_room  a buffer for the name of the missing font, at most 255 bytes, if the reason is BOXGLUE_REFUSAL_NO_FONT. The rest of the buffer is unchanged
  * @return BOXGLUE_ACCEPTED, BOXGLUE_REFUSED, BOXGLUE_OUT_OF_MEMORY, BOXGLUE_BAD_FONT_NAME or BOXGLUE_BUFFER_TOO_SMALL.
- *         At BOXGLUE_OUT_OF_MEMORY the fault is BOXGLUE_REFUSAL_OUT_OF_MEMORY. At BOXGLUE_BAD_FONT_NAME *fault is unchanged
+ *         BOXGLUE_OUT_OF_MEMORY has the fault BOXGLUE_REFUSAL_OUT_OF_MEMORY. BOXGLUE_BAD_FONT_NAME leaves *fault unchanged
  */
 uint32_t boxglue_check(const uint8_t *dvi, size_t dvi_size,
                        const struct boxglue_font *fonts, size_t font_count,
@@ -423,10 +424,10 @@ uint32_t boxglue_check(const uint8_t *dvi, size_t dvi_size,
  * @param parameters  the other numbers
  * @param steps, step_room  a buffer with a step for each two characters for which the font has a kern or a ligature, in the order of the first character and then of the
  *        second. 65,536 steps always suffice; most fonts have fewer than 1,000. The rest of the buffer is unchanged
- * @param count  the number of steps, or at BOXGLUE_BUFFER_TOO_SMALL what the buffer needs
+ * @param count  the number of steps, or on BOXGLUE_BUFFER_TOO_SMALL the number that the buffer needs
  * @param fault  the reason of a refusal, BOXGLUE_REFUSAL_BAD_TFM or BOXGLUE_REFUSAL_DIMENSION_TOO_LARGE, or zeros if the file is accepted
  * @return BOXGLUE_ACCEPTED, BOXGLUE_REFUSED, BOXGLUE_OUT_OF_MEMORY, BOXGLUE_BUFFER_TOO_SMALL or BOXGLUE_OUT_OF_RANGE.
- *         At BOXGLUE_REFUSED only *fault is written, and at BOXGLUE_BUFFER_TOO_SMALL only *count. At BOXGLUE_OUT_OF_MEMORY and BOXGLUE_OUT_OF_RANGE nothing is written
+ *         BOXGLUE_REFUSED writes only *fault, BOXGLUE_BUFFER_TOO_SMALL only *count, and BOXGLUE_OUT_OF_MEMORY and BOXGLUE_OUT_OF_RANGE nothing
  */
 uint32_t boxglue_metrics(const uint8_t *tfm, size_t tfm_size,
                          int32_t size,
@@ -446,7 +447,7 @@ uint32_t boxglue_version(void);
 /**
  * @brief Say whether the library is proved.
  *
- * @return 1 if the library is proved, and 0 if it was built without proofs: then a fault of its own ends the program by a trap
+ * @return 1 if the library is proved, or 0 if it was built without proofs, with run-time checks that end the program by a trap when they fail
  */
 uint32_t boxglue_proved(void);
 
@@ -478,8 +479,8 @@ struct boxglue_job {
  *
  * @param job  the handle
  * @param fonts, font_count  the fonts that scripts may load
- * @return BOXGLUE_ACCEPTED, BOXGLUE_OUT_OF_MEMORY, BOXGLUE_BAD_FONT_NAME or BOXGLUE_JOB_EXISTS, which is tested first. At BOXGLUE_OUT_OF_MEMORY,
- *         BOXGLUE_BAD_FONT_NAME and BOXGLUE_JOB_EXISTS the handle is unchanged
+ * @return BOXGLUE_ACCEPTED, BOXGLUE_OUT_OF_MEMORY, BOXGLUE_BAD_FONT_NAME or BOXGLUE_JOB_EXISTS, which is tested first.
+ *         The last three leave the handle unchanged
  */
 uint32_t boxglue_job_new(struct boxglue_job *job,
                          const struct boxglue_font *fonts, size_t font_count);
@@ -494,8 +495,8 @@ uint32_t boxglue_job_new(struct boxglue_job *job,
  * @param job  the handle
  * @param script, script_size  the piece
  * @return BOXGLUE_ACCEPTED, BOXGLUE_REFUSED, BOXGLUE_OUT_OF_MEMORY, BOXGLUE_REFUSED_MEMORY, BOXGLUE_NO_JOB or BOXGLUE_ANSWERS_LOST.
- *         At BOXGLUE_OUT_OF_MEMORY nothing was run, there is no answer, and the job is unchanged. At BOXGLUE_ANSWERS_LOST the commands were run, their lines count,
- *         and their answers are lost
+ *         BOXGLUE_OUT_OF_MEMORY means that nothing was run, there is no answer, and the job is unchanged. BOXGLUE_ANSWERS_LOST means that the commands were run, their
+ *         lines count, and their answers are lost
  */
 uint32_t boxglue_job_commands(struct boxglue_job *job,
                               const uint8_t *script, size_t script_size);
@@ -505,8 +506,8 @@ uint32_t boxglue_job_commands(struct boxglue_job *job,
  *
  * @param job  the handle
  * @param text, text_room  a buffer for the answers
- * @param size  the number of their bytes, which may be 0, or at BOXGLUE_BUFFER_TOO_SMALL what the buffer needs. The rest of the buffer is unchanged
- * @return BOXGLUE_ACCEPTED, BOXGLUE_BUFFER_TOO_SMALL or BOXGLUE_NO_JOB. At BOXGLUE_BUFFER_TOO_SMALL nothing is lost. At BOXGLUE_NO_JOB *size is unchanged
+ * @param size  the number of their bytes, which may be 0, or on BOXGLUE_BUFFER_TOO_SMALL the size that the buffer needs. The rest of the buffer is unchanged
+ * @return BOXGLUE_ACCEPTED, BOXGLUE_BUFFER_TOO_SMALL or BOXGLUE_NO_JOB. BOXGLUE_BUFFER_TOO_SMALL loses nothing. BOXGLUE_NO_JOB leaves *size unchanged
  */
 uint32_t boxglue_job_answers(struct boxglue_job *job,
                              uint8_t *text, size_t text_room,
@@ -520,8 +521,8 @@ uint32_t boxglue_job_answers(struct boxglue_job *job,
  *
  * @param job  the handle
  * @param dvi, dvi_room  a buffer for the bytes
- * @param size  the number of the bytes, which may be 0, or at BOXGLUE_BUFFER_TOO_SMALL what the buffer needs. The rest of the buffer is unchanged
- * @return BOXGLUE_ACCEPTED, BOXGLUE_BUFFER_TOO_SMALL or BOXGLUE_NO_JOB. At BOXGLUE_BUFFER_TOO_SMALL nothing is lost. At BOXGLUE_NO_JOB *size is unchanged
+ * @param size  the number of the bytes, which may be 0, or on BOXGLUE_BUFFER_TOO_SMALL the size that the buffer needs. The rest of the buffer is unchanged
+ * @return BOXGLUE_ACCEPTED, BOXGLUE_BUFFER_TOO_SMALL or BOXGLUE_NO_JOB. BOXGLUE_BUFFER_TOO_SMALL loses nothing. BOXGLUE_NO_JOB leaves *size unchanged
  */
 uint32_t boxglue_job_take(struct boxglue_job *job,
                           uint8_t *dvi, size_t dvi_room,
@@ -536,7 +537,7 @@ uint32_t boxglue_job_take(struct boxglue_job *job,
  *
  * @param job  the handle
  * @return BOXGLUE_ACCEPTED, BOXGLUE_REFUSED, BOXGLUE_REFUSED_MEMORY, BOXGLUE_NO_JOB or BOXGLUE_ANSWERS_LOST.
- *         At BOXGLUE_ANSWERS_LOST the line is lost; the next call says whether the job has ended: JobOver
+ *         BOXGLUE_ANSWERS_LOST means that the line is lost; if the job has ended, the next call answers JobOver
  */
 uint32_t boxglue_job_finish(struct boxglue_job *job);
 
@@ -572,70 +573,117 @@ enum boxglue_reply_kind {
 
 /** @brief Why a command, the end of a job, a piece, a script or a file is refused. docs/REFUSALS.md explains each number. */
 enum boxglue_refusal {
+    /** The system refused memory. */
     BOXGLUE_REFUSAL_OUT_OF_MEMORY = 1,
+    /** A line does not have the form of a command. The cause is one of enum boxglue_line_cause. */
     BOXGLUE_REFUSAL_BAD_SCRIPT = 2,
+    /** A size or a total does not fit: its absolute value is more than 1,073,741,823 scaled points. */
     BOXGLUE_REFUSAL_DIMENSION_TOO_LARGE = 3,
+    /** The slot has no font, no font is current, or no font has the name. */
     BOXGLUE_REFUSAL_NO_FONT = 4,
+    /** The metric file breaks a rule. The cause is one of enum boxglue_tfm_cause. */
     BOXGLUE_REFUSAL_BAD_TFM = 5,
+    /** The slot already has a font. */
     BOXGLUE_REFUSAL_SLOT_TAKEN = 6,
+    /** The command needs an open list. */
     BOXGLUE_REFUSAL_NO_OPEN_LIST = 7,
+    /** The command does not belong in the innermost list. */
     BOXGLUE_REFUSAL_WRONG_MODE = 8,
+    /** The register holds a box of the other kind. */
     BOXGLUE_REFUSAL_WRONG_KIND = 9,
+    /** The list would have more than 65,536 items. */
     BOXGLUE_REFUSAL_LIST_TOO_LONG = 10,
+    /** More than 64 lists would be open, or boxes would be more than 200 deep. */
     BOXGLUE_REFUSAL_TOO_DEEP = 11,
+    /** Glue of the paragraph, or of the list to be split, shrinks by an infinite order. */
     BOXGLUE_REFUSAL_INFINITE_SHRINK = 12,
+    /** The paragraph has more than 8,192 legal places for breaks. */
     BOXGLUE_REFUSAL_TOO_MANY_BREAKS = 13,
+    /** A place or a size of the page does not fit. */
     BOXGLUE_REFUSAL_HUGE_PAGE = 14,
+    /** The job has already shipped 65,535 pages. */
     BOXGLUE_REFUSAL_TOO_MANY_PAGES = 15,
+    /** The job would have shipped more than 16,777,216 nodes. */
     BOXGLUE_REFUSAL_TOO_MUCH_SHIPPED = 16,
+    /** A list is still open at the end of the job. */
     BOXGLUE_REFUSAL_LISTS_OPEN = 17,
+    /** The bytes of the DVI file could not be kept, and the job is over. */
     BOXGLUE_REFUSAL_DEVICE = 18,
+    /** The job was over before this command. */
     BOXGLUE_REFUSAL_JOB_OVER = 19,
-    /** Only a DVI file is refused for this. */
+    /** The DVI file breaks a rule. The cause is one of enum boxglue_dvi_cause. No command is refused for this. */
     BOXGLUE_REFUSAL_BAD_DVI = 20,
+    /** The register is void. */
     BOXGLUE_REFUSAL_VOID_BOX = 21,
+    /** A special has more than 65,535 bytes, or the job would have shipped more than 1,048,576 bytes of specials. */
     BOXGLUE_REFUSAL_TOO_MUCH_SPECIAL = 22
 };
 
 /** @brief Why a metric file is refused (docs/FORMATS.md, section 9). */
 enum boxglue_tfm_cause {
+    /** The file has fewer than 24 bytes, or fewer than its first number says. */
     BOXGLUE_TFM_TOO_SHORT = 1,
+    /** The twelve numbers at the front of the file contradict each other. */
     BOXGLUE_TFM_COUNTS = 2,
+    /** The design size is below one point. */
     BOXGLUE_TFM_DESIGN_SIZE = 3,
+    /** A character names an entry that its table does not have. */
     BOXGLUE_TFM_CHAR_INFO = 4,
+    /** A size is 16 design sizes or more, or a table does not begin with 0. */
     BOXGLUE_TFM_FIX_WORD = 5,
+    /** A rule for ligatures or kerns names a character or an entry that is not there, or the rules go past their end. */
     BOXGLUE_TFM_LIG_KERN = 6
 };
 
 /** @brief Which rule a DVI file breaks (docs/FORMATS.md, section 7). */
 enum boxglue_dvi_cause {
+    /** The file does not end with at least four bytes 223, after at least six other bytes. */
     BOXGLUE_DVI_TRAILER = 1,
+    /** The version at the end is not 2. */
     BOXGLUE_DVI_VERSION = 2,
+    /** A byte begins no instruction, or the instruction is not allowed at its place. */
     BOXGLUE_DVI_OPCODE = 3,
+    /** A pointer names a wrong place, or a page is not in the chain of pages. */
     BOXGLUE_DVI_POINTER = 4,
+    /** The postamble does not have the number of pages. */
     BOXGLUE_DVI_COUNT = 5,
+    /** The file does not begin with a preamble of version 2 whose units are positive and equal the postamble's. */
     BOXGLUE_DVI_PREAMBLE = 6,
+    /** The postamble or the end of the file cuts an instruction off. */
     BOXGLUE_DVI_TRUNCATED = 7,
+    /** A pop has no push, a page ends with an open push, or more pushes are open than 1,024 or than the postamble says. */
     BOXGLUE_DVI_STACK = 8,
+    /** A selected font is not defined both before its selection and after all pages, or a definition has a bad size or differs from the first of its number. */
     BOXGLUE_DVI_FONT = 9,
+    /** A page sets a character that its font does not have, or sets it without a font. */
     BOXGLUE_DVI_GLYPH = 10,
+    /** A place leaves the range of signed 32 bits. */
     BOXGLUE_DVI_RANGE = 11
 };
 
 /** @brief Why a line is bad (docs/FORMATS.md, section 2). */
 enum boxglue_line_cause {
+    /** A byte is not printable ASCII, 32 to 126. */
     BOXGLUE_LINE_BYTE = 1,
+    /** The first field is not a command, or another is not a keyword or parameter that may stand there. */
     BOXGLUE_LINE_WORD = 2,
+    /** The line ends before a field that its command needs. */
     BOXGLUE_LINE_MISSING = 3,
+    /** A field comes after the end of the command. */
     BOXGLUE_LINE_EXTRA = 4,
+    /** A field is not a number, or a number or a font's size is out of its range. */
     BOXGLUE_LINE_NUMBER = 5,
+    /** A field is not a dimension, or the dimension is too large. */
     BOXGLUE_LINE_DIMENSION = 6,
+    /** The name of a font does not have 1 to 255 letters, digits, hyphens, underscores and periods. */
     BOXGLUE_LINE_NAME = 7
 };
 
-/** @brief The kind of a box that was measured. A vtop is a vbox. */
+/** @brief The kind of a box that was measured. */
 enum boxglue_box_kind {
+    /** An hbox. */
     BOXGLUE_BOX_HORIZONTAL = 0,
+    /** A vbox or a vtop. */
     BOXGLUE_BOX_VERTICAL = 1
 };
 
@@ -667,7 +715,7 @@ struct boxglue_reply {
     struct boxglue_box_sizes rest;
     /** 1 if a split left a rest, else 0. */
     uint32_t has_rest;
-    /** 0 to 10000, or 1000000 for an overfull box. */
+    /** The badness of the box, 0 to 10000, or 1000000 if it is overfull. */
     uint32_t badness;
     /** The pass that broke the paragraph, 1 to 3, or 0 for an empty paragraph. */
     uint32_t pass;
@@ -677,7 +725,7 @@ struct boxglue_reply {
     uint64_t count;
     /** The number of bytes of the file. */
     uint64_t bytes;
-    /** By how much lines are overfull, in scaled points. */
+    /** How far the lines of the paragraph stick out, in scaled points. */
     int64_t overhang;
     /** The demerits of the lines. */
     int64_t demerits;
@@ -700,10 +748,10 @@ struct boxglue_reply_sizes {
  * @param script, script_size  the piece
  * @param replies, reply_room  a buffer with a reply for each line that has a command, in order, or for the one reply of a piece with a bad line. The library tests its
  *        capacity before it runs a line: one more than the piece has line feeds always suffices. The rest of the buffer is unchanged
- * @param count  the number of replies, or at BOXGLUE_BUFFER_TOO_SMALL what the buffer needs
+ * @param count  the number of replies, or on BOXGLUE_BUFFER_TOO_SMALL the number that the buffer needs
  * @return BOXGLUE_ACCEPTED, BOXGLUE_REFUSED, BOXGLUE_OUT_OF_MEMORY, BOXGLUE_BUFFER_TOO_SMALL, BOXGLUE_REFUSED_MEMORY or BOXGLUE_NO_JOB.
- *         At BOXGLUE_REFUSED_MEMORY a reply is refused as OutOfMemory. At BOXGLUE_OUT_OF_MEMORY and BOXGLUE_BUFFER_TOO_SMALL nothing was run. At
- *         BOXGLUE_OUT_OF_MEMORY and BOXGLUE_NO_JOB *count is unchanged
+ *         BOXGLUE_REFUSED_MEMORY means that a reply is refused as OutOfMemory. BOXGLUE_OUT_OF_MEMORY and BOXGLUE_BUFFER_TOO_SMALL mean that nothing was run.
+ *         BOXGLUE_OUT_OF_MEMORY and BOXGLUE_NO_JOB leave *count unchanged
  */
 uint32_t boxglue_job_run(struct boxglue_job *job,
                          const uint8_t *script, size_t script_size,
@@ -717,7 +765,7 @@ uint32_t boxglue_job_run(struct boxglue_job *job,
  *
  * @param job  the handle
  * @param reply  the reply
- * @return BOXGLUE_ACCEPTED, BOXGLUE_REFUSED, BOXGLUE_REFUSED_MEMORY or BOXGLUE_NO_JOB. At BOXGLUE_NO_JOB *reply is unchanged
+ * @return BOXGLUE_ACCEPTED, BOXGLUE_REFUSED, BOXGLUE_REFUSED_MEMORY or BOXGLUE_NO_JOB. BOXGLUE_NO_JOB leaves *reply unchanged
  */
 uint32_t boxglue_job_end(struct boxglue_job *job,
                          struct boxglue_reply *reply);
@@ -732,9 +780,9 @@ uint32_t boxglue_job_end(struct boxglue_job *job,
  * @param replies, reply_room  a buffer with a reply for each line that has a command, in order, and then the reply of the end; or for the one reply of a script with a
  *        bad line
  * @param dvi, dvi_room  a buffer for the bytes of the DVI file, as in boxglue_run
- * @param sizes  the numbers of both, or at BOXGLUE_BUFFER_TOO_SMALL what both buffers need. The rest of each buffer is unchanged
- * @return BOXGLUE_ACCEPTED, BOXGLUE_REFUSED, BOXGLUE_OUT_OF_MEMORY, BOXGLUE_BAD_FONT_NAME, BOXGLUE_BUFFER_TOO_SMALL or BOXGLUE_REFUSED_MEMORY. At
- *         BOXGLUE_BUFFER_TOO_SMALL the buffers are unchanged. At BOXGLUE_OUT_OF_MEMORY and BOXGLUE_BAD_FONT_NAME *sizes is unchanged
+ * @param sizes  the numbers of replies and of bytes, or on BOXGLUE_BUFFER_TOO_SMALL the sizes that the buffers need. The rest of each buffer is unchanged
+ * @return BOXGLUE_ACCEPTED, BOXGLUE_REFUSED, BOXGLUE_OUT_OF_MEMORY, BOXGLUE_BAD_FONT_NAME, BOXGLUE_BUFFER_TOO_SMALL or BOXGLUE_REFUSED_MEMORY.
+ *         BOXGLUE_BUFFER_TOO_SMALL leaves the buffers unchanged; BOXGLUE_OUT_OF_MEMORY and BOXGLUE_BAD_FONT_NAME leave *sizes unchanged
  */
 uint32_t boxglue_run_replies(const uint8_t *script, size_t script_size,
                              const struct boxglue_font *fonts, size_t font_count,
@@ -750,11 +798,17 @@ enum boxglue_item_kind {
     BOXGLUE_ITEM_FONT_KERN = 2,
     /** A kern of a command. */
     BOXGLUE_ITEM_KERN = 3,
+    /** Glue. */
     BOXGLUE_ITEM_GLUE = 4,
+    /** A penalty. */
     BOXGLUE_ITEM_PENALTY = 5,
+    /** A rule. */
     BOXGLUE_ITEM_RULE = 6,
+    /** A special. */
     BOXGLUE_ITEM_SPECIAL = 7,
+    /** A horizontal box. */
     BOXGLUE_ITEM_HBOX = 8,
+    /** A vertical box. */
     BOXGLUE_ITEM_VBOX = 9
 };
 
@@ -772,8 +826,8 @@ struct boxglue_item {
     uint32_t level;
     /** One of enum boxglue_item_kind. */
     uint32_t kind;
-    /** How far the item is to the right of the outermost box's reference point. Its place is the start of a glyph, kern, glue, penalty or special, the reference point of
-     * a box, or the lower left corner of a rule. */
+    /** How far the item is to the right of the outermost box's reference point. The item's place is the start of a glyph, kern, glue, penalty or special, the reference
+     * point of a box, or the lower left corner of a rule. */
     struct boxglue_wide_dimen right;
     /** The same place, downward. */
     struct boxglue_wide_dimen down;
@@ -835,9 +889,9 @@ struct boxglue_item_sizes {
  * @param register_number  the register, 0 to 32767
  * @param items, item_room  a buffer for the items
  * @param text, text_room  a buffer for the texts of the specials, one after the other
- * @param sizes  the numbers of both, or at BOXGLUE_BUFFER_TOO_SMALL what both buffers need. The rest of each buffer is unchanged
+ * @param sizes  the numbers of items and of bytes, or on BOXGLUE_BUFFER_TOO_SMALL the sizes that the buffers need. The rest of each buffer is unchanged
  * @return BOXGLUE_ACCEPTED, or the first that applies of BOXGLUE_NO_JOB, BOXGLUE_OUT_OF_RANGE and BOXGLUE_BUFFER_TOO_SMALL.
- *         At BOXGLUE_BUFFER_TOO_SMALL nothing is written to the buffers. At BOXGLUE_OUT_OF_RANGE and BOXGLUE_NO_JOB *sizes is unchanged
+ *         BOXGLUE_BUFFER_TOO_SMALL leaves the buffers unchanged; BOXGLUE_OUT_OF_RANGE and BOXGLUE_NO_JOB leave *sizes unchanged
  */
 uint32_t boxglue_job_items(struct boxglue_job *job,
                            uint32_t register_number,

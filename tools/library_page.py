@@ -33,6 +33,35 @@ how to compile and link a program:
 .nf
 cc program.c $(pkg\\-config \\-\\-cflags \\-\\-libs boxglue)
 .fi
+.SH EXAMPLES
+This program runs a script of one rule, and prints the answers and the size of the DVI file:
+.PP
+.nf
+#include <boxglue.h>
+#include <stdio.h>
+
+static const char script[] = "hbox into 0\\en"
+                             "rule 1pt 1pt 0pt\\en"
+                             "end\\en"
+                             "ship 0\\en";
+static uint8_t answers[4096], dvi[4096];
+
+int main(void)
+{
+    struct boxglue_lengths lengths;
+    uint32_t status = boxglue_run(script, sizeof script \\- 1, NULL, 0,
+                                  answers, sizeof answers,
+                                  dvi, sizeof dvi, &lengths);
+
+    if (status != BOXGLUE_ACCEPTED) {
+        fprintf(stderr, "%s\\en", boxglue_status_text(status));
+        return 1;
+    }
+    fwrite(answers, 1, lengths.answers, stdout);
+    printf("%lu bytes\\en", (unsigned long)lengths.dvi);
+    return 0;
+}
+.fi
 .SH SEE ALSO
 .BR boxglue (1)
 .PP
@@ -52,11 +81,13 @@ def content(comment):
 
 
 def escaped(text):
-    """Return a text as roff shows it unchanged: one line, with its names of functions in bold."""
+    """Return a text as roff shows it unchanged: one line, with its names of functions in bold. No
+    hyphen divides the name of a number."""
     text = " ".join(text.split()).replace("\\", "\\e").replace("-", "\\-")
     text = re.sub(r"\*\*(.*?)\*\*", r"\\fB\1\\fP", text)
     text = re.sub(r"(?<![\w*])\*(\w+)\*", r"\\fI\1\\fP", text)
     text = re.sub(NAMES, r"\\fB\1\\fP", text)
+    text = re.sub(r"(?<![\w%])(BOXGLUE_\w)", r"\\%\1", text)
     return "\\&" + text if text.startswith((".", "'")) else text
 
 
@@ -134,7 +165,7 @@ def page():
     kinds = re.findall(rf"{COMMENT}\n((?:struct|enum) boxglue_\w+) \{{(.*?)\n?\}};", header, re.S)
     shown = "".join(prototype(*it[1:]) for it in functions)
     made = [
-        f'.\\" Written by tools/library_page.py\n.TH BOXGLUE 3 {title[1]} {title[2]} "Library Functions Manual"\n',
+        f'.\\" Written by tools/library_page.py\n.TH BOXGLUE 3 {title[1]} {title[2]} "Library Functions Manual"\n.ad l\n',
         HEAD,
         shown,
         ".fi\n",
