@@ -12,7 +12,7 @@
  *     if (!status) status = boxglue_do_finish(&page);
  *     boxglue_typed_free(&page);
  *
- * All calls are inline functions over boxglue_job_run of boxglue.h, and the library has none of their names. C99 or C++98 is enough.
+ * All calls are inline functions over boxglue_job_run of boxglue.h, and the library exports none of them. C99 or C++98 is enough.
  *
  * Each boxglue_do call tests its arguments, runs one command (docs/COMMANDS.md, section 3), and stores the reply in the handle. It returns one of these statuses:
  *
@@ -20,7 +20,7 @@
  * - BOXGLUE_REFUSED: The command was refused and changed nothing. `reply.refusal` says why, and boxglue_refusal_name names it.
  * - BOXGLUE_REFUSED_MEMORY: The same, because the system refused memory.
  * - BOXGLUE_OUT_OF_RANGE: An argument is not allowed in a script, and nothing was sent. `fault` says what is wrong with it, and `place` where in a text.
- * - BOXGLUE_OUT_OF_MEMORY: The system refused memory, and nothing was run. A text of more than 200 bytes needs memory of malloc, which the call frees.
+ * - BOXGLUE_OUT_OF_MEMORY: The system refused memory, and nothing was run. A text of more than 200 bytes needs memory from malloc, which the call frees.
  * - BOXGLUE_NO_JOB: The handle is null, or has no job.
  *
  * A handle may be null in all calls. Give a handle to one call at a time, and do not copy it. You may run scripts on its job, too: boxglue_job_run(&page.job, ..).
@@ -51,9 +51,9 @@ typedef int32_t boxglue_sp;
 
 /** @brief Points, as a dimension. A fraction of a scaled point is cut off. */
 #define BOXGLUE_PT(points) ((boxglue_sp)((points) * 65536))
-/** @brief In place of a size of a rule: the rule takes this size from the box around it. */
+/** @brief A size of a rule that comes from the box around the rule. */
 #define BOXGLUE_RUNNING ((boxglue_sp)(-2147483647 - 1))
-/** @brief In place of a register: the box goes into the enclosing list. */
+/** @brief Stands for a register: the box goes into the enclosing list. */
 #define BOXGLUE_IN_LIST (-1)
 
 /** @brief What is wrong with an argument. */
@@ -74,9 +74,9 @@ enum boxglue_argument_fault {
 enum boxglue_target {
     /** Its natural size. */
     BOXGLUE_NATURAL = 0,
-    /** The size that is given. */
+    /** The given size. */
     BOXGLUE_TO = 1,
-    /** Its natural size and the size that is given, added. */
+    /** Its natural size plus the given size. */
     BOXGLUE_SPREAD = 2
 };
 
@@ -108,32 +108,51 @@ struct boxglue_glue {
 
 /** @brief The parameters that are dimensions (docs/COMMANDS.md, section 1). */
 enum boxglue_dimension_parameter {
+    /** The greatest depth of a vbox; what is more becomes height. */
     BOXGLUE_BOXMAXDEPTH = 0,
+    /** The same for the front of a split. */
     BOXGLUE_SPLITMAXDEPTH = 1,
+    /** The space between boxes below which lineskip replaces baselineskip. */
     BOXGLUE_LINESKIPLIMIT = 2,
+    /** The width of a paragraph's lines. */
     BOXGLUE_HSIZE = 3,
+    /** The width of a paragraph's first lines. */
     BOXGLUE_FIRSTSIZE = 4,
+    /** How far pages are moved to the right. */
     BOXGLUE_HOFFSET = 5,
+    /** How far pages are moved down. */
     BOXGLUE_VOFFSET = 6
 };
 
 /** @brief The parameters that are glues (docs/COMMANDS.md, section 1). */
 enum boxglue_glue_parameter {
+    /** From the top of the rest of a split to its first baseline. */
     BOXGLUE_SPLITTOPSKIP = 0,
+    /** From one baseline to the next in a vertical list. */
     BOXGLUE_BASELINESKIP = 1,
+    /** Between boxes that would be too close. */
     BOXGLUE_LINESKIP = 2,
+    /** At the end of a paragraph. */
     BOXGLUE_PARFILLSKIP = 3
 };
 
 /** @brief The parameters that are numbers (docs/COMMANDS.md, section 1). */
 enum boxglue_number_parameter {
+    /** The greatest badness of a line in pass 1. */
     BOXGLUE_PRETOLERANCE = 0,
+    /** The greatest badness of a line in pass 2. */
     BOXGLUE_TOLERANCE = 1,
+    /** Added to the badness of each line. */
     BOXGLUE_LINEPENALTY = 2,
+    /** The demerits if tight and loose lines meet. */
     BOXGLUE_ADJDEMERITS = 3,
+    /** The penalty after a paragraph's first line. */
     BOXGLUE_CLUBPENALTY = 4,
+    /** The penalty before a paragraph's last line. */
     BOXGLUE_WIDOWPENALTY = 5,
+    /** The penalty between any two lines of a paragraph. */
     BOXGLUE_INTERLINEPENALTY = 6,
+    /** How many lines firstsize sets, 0 to 32. */
     BOXGLUE_FIRSTLINES = 7
 };
 
@@ -373,7 +392,7 @@ static inline BOXGLUE_MUST_CHECK uint32_t boxglue_line_of_box(struct boxglue_typ
  * @param typed  the handle
  * @param slot  the slot, 0 to 255
  * @param name  the name of the font, which ends with a byte 0
- * @param at  the size, 1 to 2^27 - 1, or 0 for the design size
+ * @param at  the size in scaled points, 1 to 2^27 - 1, or 0 for the design size
  * @return BOXGLUE_ACCEPTED, BOXGLUE_REFUSED, BOXGLUE_REFUSED_MEMORY, BOXGLUE_OUT_OF_RANGE, BOXGLUE_OUT_OF_MEMORY or BOXGLUE_NO_JOB
  */
 static inline BOXGLUE_MUST_CHECK uint32_t boxglue_do_load(struct boxglue_typed *typed, int32_t slot, const char *name, boxglue_sp at) {
