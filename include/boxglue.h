@@ -62,7 +62,7 @@ enum boxglue_status {
     BOXGLUE_ACCEPTED = 0,
     /** The library refused the script, one of its commands, the end of the job, or the file. The text, a reply or the fault says why. The outputs are written. */
     BOXGLUE_REFUSED = 1,
-    /** The system refused memory, and there is no result. The buffers are unchanged. The library takes memory only after its tests for BOXGLUE_BAD_FONT_NAME,
+    /** The system refused memory, and there is no result. The buffers are unchanged. The library allocates memory only after its tests for BOXGLUE_BAD_FONT_NAME,
      * BOXGLUE_OUT_OF_RANGE, BOXGLUE_NO_JOB and BOXGLUE_JOB_EXISTS have passed. */
     BOXGLUE_OUT_OF_MEMORY = 2,
     /** The name of a font does not have 1 to 255 bytes. The library tests this first. The buffers are unchanged. */
@@ -282,7 +282,7 @@ struct boxglue_font_step {
 /**
  * @brief Run a script with these fonts.
  *
- * If a buffer is too small, the script was run, and a second call runs it again, so begin with buffers that usually suffice.
+ * If a buffer is too small, the call has run the script in vain, and a second call runs it again. Begin with buffers that usually suffice.
  *
  * @param script, script_size  the script
  * @param fonts, font_count  the fonts that the script may load
@@ -514,10 +514,10 @@ uint32_t boxglue_job_answers(struct boxglue_job *job,
                              size_t *size);
 
 /**
- * @brief Hand over the bytes of the DVI file that went out since the last call that returned BOXGLUE_ACCEPTED.
+ * @brief Hand over the bytes of the DVI file that were written since the last call that returned BOXGLUE_ACCEPTED.
  *
- * The pieces that these calls hand over are the file: no byte is left out, and none comes twice. A page goes out when it is shipped, and the end of the file when the job
- * is finished. The job keeps all bytes of the file until it is freed.
+ * The pieces that these calls hand over make up the file: no byte is left out, and none comes twice. The job writes a page when it is shipped, and the end of the file
+ * when the job is finished. It keeps all bytes of the file until it is freed.
  *
  * @param job  the handle
  * @param dvi, dvi_room  a buffer for the bytes
@@ -529,11 +529,10 @@ uint32_t boxglue_job_take(struct boxglue_job *job,
                           size_t *size);
 
 /**
- * @brief End the job: the end of the DVI file goes out, and the answer is the line that begins with "end: ".
+ * @brief End the job: write the end of the DVI file, and answer by the line that begins with "end: ".
  *
- * Answers and bytes can be handed over after this call as before it. If the end is refused, the line has the refusal. After ListsOpen, OutOfMemory and
- * JobOver no byte went out and the job is unchanged; after the first two it may go on and be finished later. After Device the job is over, and a
- * beginning of the file went out.
+ * boxglue_job_answers and boxglue_job_take work after this call as before it. If the end is refused, the line has the refusal. ListsOpen, OutOfMemory and JobOver
+ * write no byte and leave the job unchanged; after the first two it may go on and be finished later. Device ends the job, after a beginning of the file was written.
  *
  * @param job  the handle
  * @return BOXGLUE_ACCEPTED, BOXGLUE_REFUSED, BOXGLUE_REFUSED_MEMORY, BOXGLUE_NO_JOB or BOXGLUE_ANSWERS_LOST.
@@ -742,7 +741,7 @@ struct boxglue_reply_sizes {
 /**
  * @brief Run a piece of a script as boxglue_job_commands does, and hand over the replies at once, as numbers.
  *
- * The job keeps no answer of this piece, so none can be lost. Answers that it keeps already stay.
+ * The job keeps no answer of this piece, so none can be lost. Answers of earlier pieces stay in it.
  *
  * @param job  the handle
  * @param script, script_size  the piece
@@ -761,7 +760,7 @@ uint32_t boxglue_job_run(struct boxglue_job *job,
 /**
  * @brief End the job as boxglue_job_finish does, with one reply.
  *
- * The job keeps no answer of this call. Answers that it keeps already stay.
+ * The job keeps no answer of this call. Answers of earlier calls stay in it.
  *
  * @param job  the handle
  * @param reply  the reply
