@@ -109,7 +109,7 @@ struct boxglue_lengths {
     size_t dvi;
 };
 
-/** @brief A font that a DVI file defines. */
+/** @brief A font that a DVI file defines. The area of its name is left out. */
 struct boxglue_dvi_font {
     /** The number by which pages select it, and which a listing shows. */
     int32_t number;
