@@ -423,7 +423,8 @@ uint32_t boxglue_check(const uint8_t *dvi, size_t dvi_size,
  * @param glyphs  the characters 0 to 255
  * @param parameters  the other numbers
  * @param steps, step_room  a buffer with a step for each two characters for which the font has a kern or a ligature, in the order of the first character and then of the
- *        second. 65,536 steps always suffice; most fonts have fewer than 1,000. The rest of the buffer is unchanged
+ *        second. 65,536 steps always suffice; most fonts have fewer than 1,000. A job does not use a step whose second character the font does not have. The rest of the
+ *        buffer is unchanged
  * @param count  the number of steps, or on BOXGLUE_BUFFER_TOO_SMALL the number that the buffer needs
  * @param fault  the reason of a refusal, BOXGLUE_REFUSAL_BAD_TFM or BOXGLUE_REFUSAL_DIMENSION_TOO_LARGE, or zeros if the file is accepted
  * @return BOXGLUE_ACCEPTED, BOXGLUE_REFUSED, BOXGLUE_OUT_OF_MEMORY, BOXGLUE_BUFFER_TOO_SMALL or BOXGLUE_OUT_OF_RANGE.
