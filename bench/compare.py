@@ -16,6 +16,7 @@ import tempfile
 
 sys.path.insert(1, os.path.join(os.path.dirname(os.path.abspath(__file__)), "trials"))
 from compare_documents import document_of  # noqa: E402 (after the path)
+from common.files import write  # noqa: E402
 from hostile import Room, keep  # noqa: E402
 from hostile_inputs import Good, input_of  # noqa: E402
 from items import CMR10  # noqa: E402
@@ -38,7 +39,7 @@ def results(room, it):
     ran = room.run(it.words, it.given, it.out)
     listed = None
     if ran.made and it.kind != "words":
-        room.write("made.dvi", ran.made)
+        write("made.dvi", ran.made)
         listed = room.run(["list", "made.dvi", *it.words[2:]]).output
     return {
         "status": ran.status,

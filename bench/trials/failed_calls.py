@@ -9,16 +9,18 @@ alone, and the file is a beginning of the whole one. An interrupted reading or w
 output that has no room yet, change nothing; where an output fails, the file is whole all the same.
 Printed are the runs by task and by what failed; the status is 1 where something is wrong."""
 
-import collections
 import itertools
 import os
 import re
-import subprocess
 import sys
-import tempfile
+from collections import Counter
 
-from hostile_answers import ONE_MESSAGE, Wrong, require
-from hostile_inputs import ROOT, parser_of
+from trial import ROOT, fast_folder, parser_of
+from common.files import content, write
+from common.outcome import Wrong, require
+from common.running import finished
+from hostile_answers import ONE_MESSAGE
+from hostile_sessions import made_file
 from models.plain_font import metric_file
 
 LIMIT = 60
@@ -49,9 +51,8 @@ CALL = re.compile(r"(\w+)\((-?\w+)?")
 # The program's own calls begin with this one; those before are of the shell and of the loader.
 FIRST = "rt_sigaction(SIGPIPE"
 LINE = re.compile(rb"(?:(\d+|end): )?(.*)\n")
-REFUSED = re.compile(
-    rb"refused (?:1 OutOfMemory|18 Device|19 JobOver|21 VoidBox|4 NoFont|7 NoOpenList|8 WrongMode|17 ListsOpen)"
-)
+REFUSALS = "1 OutOfMemory|18 Device|19 JobOver|21 VoidBox|4 NoFont|7 NoOpenList|8 WrongMode"
+REFUSED = re.compile(f"refused (?:{REFUSALS}|17 ListsOpen)".encode())
 
 
 class Traced:
@@ -65,43 +66,24 @@ class Traced:
         made, log = f"{self.folder}/out.dvi", f"{self.folder}/trace"
         if os.path.exists(made):
             os.remove(made)
-        gives = "retval" if fails and fails[1].isdigit() else "error"
-        inject = ["-e", f"inject={fails[0]}:{gives}={fails[1]}:when={fails[2]}"] if fails else []
+        words = ["strace", "-o", log]
+        if fails:
+            name, error, number = fails
+            gives = "retval" if error.isdigit() else "error"
+            words += ["-e", f"inject={name}:{gives}={error}:when={number}"]
         shell = 'exec "$@" ' + " ".join(f"{it}>&-" if it else "<&-" for it in closed)
+        words += ["/bin/sh", "-c", shell, "sh", self.program, *TASKS[task]]
+        how = {"cwd": self.folder, "env": {"LANG": "C.UTF-8"}, "timeout": LIMIT}
         with open(f"{self.folder}/script", "rb") as given:
-            words = [
-                "strace",
-                "-o",
-                log,
-                *inject,
-                "/bin/sh",
-                "-c",
-                shell,
-                "sh",
-                self.program,
-                *TASKS[task],
-            ]
-            ran = subprocess.run(
-                words,
-                cwd=self.folder,
-                env={"LANG": "C.UTF-8"},
-                stdin=given,
-                capture_output=True,
-                timeout=LIMIT,
-            )
-        with open(log, encoding="latin-1") as it:
-            lines = it.read().splitlines()
-        data = None
-        if os.path.exists(made):
-            with open(made, "rb") as it:
-                data = it.read()
-        return (ran.returncode, ran.stdout, ran.stderr, data), lines
+            ran = finished(words, stdin=given, **how)
+        lines = content(log).decode("latin-1").splitlines()
+        return (ran.returncode, ran.stdout, ran.stderr, made_file(made)), lines
 
 
 def calls_of(lines):
     """The program's own calls: the name, the first argument, and which call of this name it is,
     from 1."""
-    counts, begun = collections.Counter(), False
+    counts, begun = Counter(), False
     for line in lines:
         found = CALL.match(line)
         if not found:
@@ -127,27 +109,24 @@ def check(task, closed, failed, ran, whole):
     (status, output, errors, made), (name, first, _), error = ran, failed[:3], failed[3]
     message = ONE_MESSAGE.fullmatch(errors)
     runs, is_output = task in ("typeset", "session", "memory"), name == "write" and first == "1"
-    require(status in (0, 1), "the status is %d, %r", status, errors[-200:])
+    require(status in (0, 1), f"the status is {status}, {errors[-200:]!r}")
     require(status or ran == whole, "the status is 0, and the run is another")
     is_told = b"refused" in output or is_output or (name, first) == ("write", "2")
     is_told = is_told or 1 in closed or 2 in closed
     says_why = message and message[1] or not errors and is_told
-    require(not status or says_why, "status 1, %r, %r", output[-100:], errors)
+    require(not status or says_why, f"status 1, {output[-100:]!r}, {errors!r}")
     require((whole[3] or b"").startswith(made or b""), "the file is no beginning")
     is_refused = output == b"refused 1 OutOfMemory\n"
     is_right = same_answers(output, whole[1]) if runs else is_refused
-    require(whole[1].startswith(output) or is_right, "the answers are %r", output[-300:])
+    require(whole[1].startswith(output) or is_right, f"the answers are {output[-300:]!r}")
     is_interrupted = name in ("read", "write") and error == "EINTR"
     waits = error == "EAGAIN" and (is_output or (task, name, first) == ("session", "read", "0"))
     if is_interrupted or waits:
-        what = "it is interrupted or has to wait, and the run is another: status %d, %r"
-        require(ran == whole, what, status, errors)
+        said = f"it is interrupted or has to wait, and the run is another: {status}, {errors!r}"
+        require(ran == whole, said)
     elif is_output:
-        require(
-            status == 1 and made == whole[3],
-            "the output fails with status %d, and the file is another",
-            status,
-        )
+        said = f"the output fails with status {status}, and the file is another"
+        require(status == 1 and made == whole[3], said)
 
 
 def try_task(traced, task, closed, counts):
@@ -161,42 +140,31 @@ def try_task(traced, task, closed, counts):
             try:
                 check(task, closed, (name, first, number, error), ran, whole)
             except Wrong as why:
-                wrong.append(
-                    f"{task}, closed {list(closed)}, call {number} of {name}({first}) gives {error}: {why}"
-                )
+                where = f"{task}, closed {list(closed)}, call {number} of {name}({first})"
+                wrong.append(f"{where} gives {error}: {why}")
                 print(wrong[-1], flush=True)
     return wrong
 
 
 def main():
     parser = parser_of(__doc__)
-    parser.add_argument(
-        "--closed", action="store_true", help="also with each set of standard streams closed"
-    )
+    about = "also with each set of standard streams closed"
+    parser.add_argument("--closed", action="store_true", help=about)
     parser.add_argument("tasks", nargs="*", metavar="TASK", help=", ".join(TASKS))
     words = parser.parse_args()
-    program, counts, wrong = os.path.abspath(words.boxglue), collections.Counter(), []
-    sets = [
-        it
-        for size in range(4 if words.closed else 1)
-        for it in itertools.combinations(range(3), size)
-    ]
-    with tempfile.TemporaryDirectory(
-        dir="/dev/shm" if os.path.isdir("/dev/shm") else None
-    ) as folder, open(f"{ROOT}/examples/{SCRIPT}", "rb") as script:
-        for name, data in (("script", script.read()), ("plain.tfm", metric_file())):
-            with open(f"{folder}/{name}", "wb") as it:
-                it.write(data)
-        traced = Traced(program, folder)
+    counts, wrong, sizes = Counter(), [], range(4 if words.closed else 1)
+    sets = [it for size in sizes for it in itertools.combinations(range(3), size)]
+    with fast_folder() as folder:
+        write(f"{folder}/script", content(f"{ROOT}/examples/{SCRIPT}"))
+        write(f"{folder}/plain.tfm", metric_file())
+        traced = Traced(words.boxglue, folder)
         (_, _, _, made), _ = traced.run("typeset", ())
-        with open(f"{folder}/page.dvi", "wb") as it:
-            it.write(made)
+        write(f"{folder}/page.dvi", made)
         for task, closed in itertools.product(words.tasks or TASKS, sets):
             wrong += try_task(traced, task, closed, counts)
     for (task, name, status, is_whole), count in sorted(counts.items()):
-        print(
-            f"{task}: {name} failed {count} times, status {status}{', as without' if is_whole else ''}"
-        )
+        more = ", as without" * is_whole
+        print(f"{task}: {name} failed {count} times, status {status}{more}")
     print(f"{sum(counts.values())} runs, {len(wrong)} are wrong")
     sys.exit(bool(wrong))
 

@@ -11,7 +11,6 @@ Printed are the inputs by kind and by what came of them, the slowest, the greate
 that is wrong; the status is 1 where something is. SIGTERM ends it early. The memory of a run that
 takes less than this process is known of one input in ten alone."""
 
-import collections
 import copy
 import ctypes
 import os
@@ -19,19 +18,21 @@ import resource
 import shutil
 import signal
 import sys
-import tempfile
 import time
+from collections import Counter, defaultdict
 
-from hostile_answers import CHECKS, HEX, VERSION, Ran, Wrong, check_listing, check_reading
-from hostile_answers import check_run, check_streams, require
-from hostile_inputs import Good, font_paths, font_words, input_of, parser_of
-from hostile_sessions import SIGNALS, check_session
+from trial import fast_folder, in_words, parser_of
+from common.files import content, write
+from common.outcome import Wrong, require
+from hostile_answers import CHECKS, HEX, VERSION, Ran, check_listing, check_reading, check_run
+from hostile_answers import check_streams
+from hostile_inputs import Good, font_paths, font_words, input_of
+from hostile_sessions import SIGNALS, check_session, made_file
 from models.dvi_reader import fonts_of_file, list_file
 from models.metric_reader import Refused, read_metrics, signed, widths_at
 
-ctypes.CDLL(None).prctl(
-    36, 1, 0, 0, 0
-)  # a process that lost its parent becomes a child of this one
+# A process that lost its parent becomes a child of this one.
+ctypes.CDLL(None).prctl(36, 1, 0, 0, 0)
 SECONDS, MEMORY, AGAIN, SHOWN = 60, 2 << 30, 50, 100
 # A shell's background, and nohup, ignore some of these.
 DEFAULT_SIGNALS = (signal.SIGPIPE, signal.SIGXFSZ, *(it for it in SIGNALS if it != signal.SIGKILL))
@@ -56,31 +57,18 @@ class Room:
 
     @staticmethod
     def stop(*_):
-        with open("/proc/thread-self/children") as file:
-            for pid in file.read().split():
-                os.kill(int(pid), signal.SIGKILL)
+        for pid in content("/proc/thread-self/children").split():
+            os.kill(int(pid), signal.SIGKILL)
 
     def fill(self, files):
         """Makes the folder anew. Beside the files it has a folder, a link to nothing, and a file
         that cannot be a folder."""
-        for name in os.listdir("."):
-            shutil.rmtree(name) if os.path.isdir(name) and not os.path.islink(name) else os.remove(
-                name
-            )
+        for it in [*os.scandir(".")]:
+            (shutil.rmtree if it.is_dir(follow_symlinks=False) else os.remove)(it)
         os.mkdir("folder")
         os.symlink("loop", "loop")
         for name, data in files.items():
-            self.write(name, data)
-
-    @staticmethod
-    def write(path, data):
-        with open(path, "wb") as file:
-            file.write(data)
-
-    @staticmethod
-    def read(path):
-        with open(path, "rb") as file:
-            return file.read()
+            write(name, data)
 
     def other(self, program):
         """A room in the same folder for another program."""
@@ -92,17 +80,11 @@ class Room:
         """One run. The peak memory of what this process starts is at least that of this process, so
         for `small` a small shell starts the program and leaves it to this process. The program gets
         the signals back that this process, or who started it, ignores."""
-        given_path, output, errors = ("%s/%s" % (self.streams, it) for it in STREAMS)
-        self.write(given_path, given)
+        paths = [f"{self.streams}/{it}" for it in STREAMS]
+        write(paths[0], given)
         actions = [
-            (
-                os.POSIX_SPAWN_OPEN,
-                number,
-                path,
-                os.O_RDWR | os.O_CREAT | os.O_TRUNC * (number > 0),
-                0o600,
-            )
-            for number, path in ((0, given_path), (1, output), (2, errors))
+            (os.POSIX_SPAWN_OPEN, at, it, os.O_RDWR | os.O_CREAT | os.O_TRUNC * (at > 0), 0o600)
+            for at, it in enumerate(paths)
         ]
         command = [self.program, *words]
         if small:
@@ -112,34 +94,24 @@ class Room:
         if small:
             os.waitpid(started, 0)
         status, seconds, memory = self.end(-1, small)
-        return Ran(status, self.read(output), self.read(errors), self.made(out), seconds, memory)
+        return Ran(status, content(paths[1]), content(paths[2]), made_file(out), seconds, memory)
 
     @staticmethod
     def spawn(command, actions):
+        """Starts a program, whose streams these actions set. `end` has to follow."""
         signal.setitimer(signal.ITIMER_REAL, SECONDS)
         return os.posix_spawn(
             command[0], command, ENVIRONMENT, file_actions=actions, setsigdef=DEFAULT_SIGNALS
         )
-
-    def start(self, words, actions):
-        """Starts the program, whose streams these actions set. `end` has to follow."""
-        return self.spawn([self.program, *words], actions)
 
     @staticmethod
     def end(started, small=False):
         """Waits for a process. Returns its status, its seconds and its memory."""
         _, status, used = os.wait4(started, 0)
         signal.setitimer(signal.ITIMER_REAL, 0)
-        memory = (
-            used.ru_maxrss
-            if small or used.ru_maxrss > resource.getrusage(resource.RUSAGE_SELF).ru_maxrss
-            else 0
-        )
-        return os.waitstatus_to_exitcode(status), used.ru_utime + used.ru_stime, memory * 1024
-
-    def made(self, out):
-        """The bytes of a file, or None where it is none."""
-        return self.read(out) if out and os.path.isfile(out) else None
+        is_known = small or used.ru_maxrss > resource.getrusage(resource.RUSAGE_SELF).ru_maxrss
+        memory = used.ru_maxrss * 1024 * is_known
+        return os.waitstatus_to_exitcode(status), used.ru_utime + used.ru_stime, memory
 
     def typeset(self, script, fonts):
         """The file of a good script, or None."""
@@ -147,56 +119,38 @@ class Room:
         return self.run(["typeset", "out.dvi", *font_words(fonts)], script, "out.dvi").made
 
 
-def check_made(room, made, end, pairs, before=None):
+def check_made(room, data, end, pairs, before=None):
     """A file is whole, and as the end of the answers says; or it is as it was before the run; or
     the end was refused, and it is a beginning that `list` refuses."""
+    size, said = len(data or b""), f"and the end says {end!r}"
     if end and not end[0]:
-        require(
-            made == before and not end[1],
-            "no page was shipped, and there is a file of %d bytes",
-            len(made or b""),
-        )
-    elif (
-        made != before or end and made and len(made) == end[1]
-    ):  # where a file is written over its like, both are the same
-        room.write("made.dvi", made)
-        listed = room.run(["list", "made.dvi", *pairs])
-        came = check_reading(listed, len(made), b"list")
-        require(
-            not end
-            or came == "accepted"
-            and len(made) == end[1]
-            and check_listing(listed.output) == end[0],
-            "the file of %d bytes is %s, and the end says %r",
-            len(made),
-            came,
-            end,
-        )
-        require(
-            end or came == "BadDvi",
-            "the end was refused, and the file of %d bytes is %s",
-            len(made),
-            came,
-        )
+        is_untouched = data == before and not end[1]
+        require(is_untouched, f"no page was shipped, and there is a file of {size} bytes")
+    # Where a file is written over its like, both are the same.
+    elif data == before and not (end and data and size == end[1]):
+        require(not end, f"there is no file, {said}")
     else:
-        require(not end, "there is no file, and the end says %r", end)
+        write("made.dvi", data)
+        listed = room.run(["list", "made.dvi", *pairs])
+        came = check_reading(listed, size, b"list")
+        is_whole = came == "accepted" and end == (check_listing(listed.output), size)
+        require(
+            is_whole if end else came == "BadDvi", f"the file of {size} bytes is {came}, {said}"
+        )
 
 
 def check_script(room, it, ran):
     """Checks the run of a script. Returns what came of it."""
-    require(ran.status < 2 and not ran.errors, "status %d, %r", ran.status, ran.errors[:200])
+    require(ran.status < 2 and not ran.errors, f"status {ran.status}, {ran.errors[:200]!r}")
     came, end, rest = check_run(it.script, ran.output)
-    require(ran.status == int(came != "accepted"), "%s with status %d", came, ran.status)
-    made = ran.made
-    if not it.words:
-        require(HEX.fullmatch(rest), "after the answers come %r", rest[:100])
-        made = bytes.fromhex(rest.decode()) or None
-    else:
-        require(not rest, "after the answers come %r", rest[:100])
+    require(ran.status == int(came != "accepted"), f"{came} with status {ran.status}")
+    is_right = not rest if it.words else HEX.fullmatch(rest)
+    require(is_right, f"after the answers come {rest[:100]!r}")
+    data = ran.made if it.words else bytes.fromhex(rest.decode()) or None
     if came in ("bad", "no memory"):
-        require(made is None or came != "bad", "the script is bad, and there is a file")
+        require(data is None or came != "bad", "the script is bad, and there is a file")
     else:
-        check_made(room, made, end, it.words[2:])
+        check_made(room, data, end, it.words[2:])
     return came
 
 
@@ -205,11 +159,8 @@ def check_words(room, it, ran):
     message, before = check_streams(ran), it.files.get(it.out)
     command = next((word for word in map(bytes, it.words) if word in COMMANDS), b"")
     if ran.status == 2 or message == b"cannot read":
-        require(
-            not ran.output and ran.made == before,
-            "words are refused, and %r is printed, or there is another file",
-            ran.output[:100],
-        )
+        said = f"words are refused, and {ran.output[:100]!r} is printed, or there is another file"
+        require(not ran.output and ran.made == before, said)
         return message.decode() or "words"
     if VERSION.fullmatch(ran.output):
         return "version"
@@ -218,16 +169,15 @@ def check_words(room, it, ran):
     if it.out in ODD_OUTS:
         return "odd output"
     came, end, rest = check_run(it.script, ran.output, command == b"session")
-    require(message or ran.status == int(came != "accepted"), "%s with status %d", came, ran.status)
+    is_right = message or ran.status == int(came != "accepted")
+    require(is_right, f"{came} with status {ran.status}")
     if command and not message and it.out and not it.out.startswith("/dev") and end and end[0]:
+        # Where the file is in the place of a metric file, `list` reads that one again.
         if before is not None:
-            room.write(
-                it.out, before
-            )  # where the file is in the place of a metric file, `list` reads that one again
+            write(it.out, before)
         check_made(room, ran.made, end, [word for word in it.words if word != b"--"][2:], before)
-    require(
-        not rest or not command and HEX.fullmatch(rest), "after the answers come %r", rest[:100]
-    )
+    is_right = not rest or not command and HEX.fullmatch(rest)
+    require(is_right, f"after the answers come {rest[:100]!r}")
     return message.decode() or came
 
 
@@ -238,13 +188,9 @@ def check_file(it, ran):
     came = check_reading(ran, len(data), command)
     fonts = {name.removesuffix(".tfm").encode(): font for name, font in it.files.items()}
     text, accepted = fonts_of_file(data) if command == b"fonts" else list_file(data, fonts)
-    if command != b"paint" or not accepted:
-        require(
-            ran.output == text,
-            "%r is printed, and the reader of the tests has %r",
-            ran.output[:200],
-            text[:200],
-        )
+    is_right = command == b"paint" and accepted or ran.output == text
+    said = f"{ran.output[:200]!r} is printed, and the reader of the tests has {text[:200]!r}"
+    require(is_right, said)
     return came
 
 
@@ -257,26 +203,19 @@ def check_metrics(it, ran):
         wanted = b"1: ok\n"
     except Refused as refusal:
         wanted = b"1: refused %s\n" % str(refusal).encode()
-    require(
-        ran.output.startswith(wanted),
-        "the metric file is answered %r, and the reader of the tests has %r",
-        ran.output[:40],
-        wanted,
-    )
+    said = f"the metric file is answered {ran.output[:40]!r}, and the reader of the tests has {wanted!r}"
+    require(ran.output.startswith(wanted), said)
 
 
-def check_folder(room, it):
+def check_folder(it):
     """No file is left behind, and none is changed but that of the run."""
     left = sorted(set(os.listdir(".")) - {"folder", "loop", it.out, *it.files})
-    changed = sorted(
-        name for name, data in it.files.items() if name != it.out and room.made(name) != data
-    )
-    require(
-        not left and not changed and not os.listdir("folder"),
-        "files that are left behind: %r; that are changed: %r",
-        left,
-        changed,
-    )
+    left += [f"folder/{name}" for name in os.listdir("folder")]
+    changed = [
+        name for name, data in it.files.items() if name != it.out and made_file(name) != data
+    ]
+    said = f"files that are left behind: {left!r}; that are changed: {sorted(changed)!r}"
+    require(not left and not changed, said)
 
 
 def checked(room, it, number):
@@ -284,18 +223,17 @@ def checked(room, it, number):
     of it."""
     if it.kind == "session":
         ran, came = check_session(room, it)
-        check_folder(room, it)
+        check_folder(it)
         return ran, came
     room.fill(it.files)
     ran = room.run(it.words, it.given, it.out, it.way == "large" or number // 20 % 10 == 0)
-    check_folder(room, it)
-    if (
-        number % AGAIN == AGAIN - 1 - number // AGAIN % 20
-    ):  # over the time each of the twenty places of a kind
+    check_folder(it)
+    # Over the time each of the twenty places of a kind is run again.
+    if number % AGAIN == AGAIN - 1 - number // AGAIN % 20:
         room.fill(it.files)
         require(ran.same(room.run(it.words, it.given, it.out)), "the second run differs")
     if b"OutOfMemory" in ran.output or b"18 Device" in ran.output and not ran.errors:
-        print("input %d: memory was refused" % number, flush=True)
+        print(f"input {number}: memory was refused", flush=True)
     check_streams(ran)
     if it.kind == "words":
         return ran, check_words(room, it, ran)
@@ -307,57 +245,37 @@ def checked(room, it, number):
 
 
 class Table:
-    """What came of the inputs, by kind."""
+    """What came of the inputs, by kind, and the numbers of those that are wrong."""
 
     def __init__(self):
-        self.ways, self.statuses = collections.defaultdict(
-            collections.Counter
-        ), collections.defaultdict(collections.Counter)
-        self.slowest, self.largest, self.wrong = {}, {}, []
+        self.came, self.runs, self.wrong = defaultdict(Counter), defaultdict(list), []
 
     def add(self, number, it, ran, came):
-        self.ways[it.kind, it.way][came] += 1
-        self.statuses[it.kind][ran.status] += 1
-        self.slowest[it.kind] = max(self.slowest.get(it.kind, (0, 0)), (ran.seconds, number))
-        self.largest[it.kind] = max(self.largest.get(it.kind, (0, 0)), (ran.memory, number))
+        self.came[it.kind, it.way][came] += 1
+        self.runs[it.kind].append((ran.status, ran.seconds, ran.memory, number))
 
     def show(self):
-        for kind, statuses in self.statuses.items():
-            print(
-                "%s: %d inputs, %s"
-                % (
-                    kind,
-                    sum(statuses.values()),
-                    ", ".join("status %d: %d" % it for it in sorted(statuses.items())),
-                )
+        for kind, runs in self.runs.items():
+            statuses = Counter(it[0] for it in runs)
+            shown = ", ".join(f"status {it[0]}: {it[1]}" for it in sorted(statuses.items()))
+            print(f"{kind}: {len(runs)} inputs, {shown}")
+            for (_, way), came in sorted(it for it in self.came.items() if it[0][0] == kind):
+                print(f"  {way} {sum(came.values())}: {in_words(came)}")
+            (seconds, slowest), (memory, largest) = (
+                max((it[at], it[3]) for it in runs) for at in (1, 2)
             )
-            for _, way in sorted(it for it in self.ways if it[0] == kind):
-                found = self.ways[kind, way]
-                print(
-                    "  %s %d: %s"
-                    % (
-                        way,
-                        sum(found.values()),
-                        ", ".join("%s %d" % it for it in found.most_common()),
-                    )
-                )
             print(
-                "  slowest %.2f s (input %d), greatest memory %.1f MB (input %d)"
-                % (*self.slowest[kind], self.largest[kind][0] / 1e6, self.largest[kind][1]),
+                f"  slowest {seconds:.2f} s (input {slowest}), "
+                f"greatest memory {memory / 1e6:.1f} MB (input {largest})",
                 flush=True,
             )
 
 
 def keep(folder, number, it):
     """Writes an input that went wrong."""
-    path = "%s/%d" % (folder, number)
-    os.makedirs(path, exist_ok=True)
-    for name, data in {
-        **it.files,
-        "STDIN": it.given,
-        "WORDS": b"\n".join(os.fsencode(word) for word in it.words),
-    }.items():
-        Room.write("%s/%s" % (path, name), data)
+    words = b"\n".join(map(os.fsencode, it.words))
+    for name, data in {**it.files, "STDIN": it.given, "WORDS": words}.items():
+        write(f"{folder}/{number}/{name}", data)
 
 
 def try_all(room, good, numbers, kept):
@@ -366,7 +284,7 @@ def try_all(room, good, numbers, kept):
     signal.signal(signal.SIGTERM, lambda *_: stopped.append(True))
     for number in numbers:
         if stopped:
-            print("stopped before input %d" % number)
+            print(f"stopped before input {number}")
             break
         it = input_of(number, good)
         try:
@@ -374,41 +292,33 @@ def try_all(room, good, numbers, kept):
         except Wrong as wrong:
             table.wrong.append(number)
             if len(table.wrong) <= SHOWN:
-                print("input %d, %s, %s: %s" % (number, it.kind, it.way, wrong), flush=True)
+                print(f"input {number}, {it.kind}, {it.way}: {wrong}", flush=True)
             if kept:
                 keep(kept, number, it)
         if (number + 1) % 10_000 == 0:
-            print("%d after %.0f s" % (number + 1, time.monotonic() - start), flush=True)
+            print(f"{number + 1} after {time.monotonic() - start:.0f} s", flush=True)
     return table
 
 
 def main():
     parser = parser_of(__doc__, True)
-    parser.add_argument(
-        "--keep",
-        metavar="FOLDER",
-        help="where the inputs go that went wrong; with --count 1 also one that went right",
-    )
+    about = "where the inputs go that went wrong; with --count 1 also one that went right"
+    parser.add_argument("--keep", metavar="FOLDER", type=os.path.abspath, help=about)
     words = parser.parse_args()
-    kept = words.keep and os.path.abspath(words.keep)
     resource.setrlimit(resource.RLIMIT_AS, (MEMORY, MEMORY))
     resource.setrlimit(resource.RLIMIT_CORE, (0, 0))
-    with tempfile.TemporaryDirectory(
-        dir="/dev/shm" if os.path.isdir("/dev/shm") else None
-    ) as folder:
-        room = Room(os.path.abspath(words.boxglue), folder)
+    with fast_folder() as folder:
+        room = Room(words.boxglue, folder)
         good = Good(room.typeset)
-        print(
-            "%d good scripts, %d good files, %d metric files"
-            % (len(good.scripts), len(good.files), len(good.metrics)),
-            flush=True,
-        )
-        table = try_all(room, good, range(words.first, words.first + words.count), kept)
-        if kept and words.count == 1:
-            keep(kept, words.first, input_of(words.first, good))
+        counts = len(good.scripts), len(good.files), len(good.metrics)
+        print("%d good scripts, %d good files, %d metric files" % counts, flush=True)
+        numbers = range(words.first, words.first + words.count)
+        table = try_all(room, good, numbers, words.keep)
+        if words.keep and words.count == 1:
+            keep(words.keep, words.first, input_of(words.first, good))
         os.chdir("/")
     table.show()
-    print("%d inputs are wrong" % len(table.wrong))
+    print(f"{len(table.wrong)} inputs are wrong")
     sys.exit(bool(table.wrong))
 
 

@@ -1,21 +1,14 @@
 """What the program may answer by docs/COMMANDS.md, docs/FORMATS.md and the manual page: the form of
 every line, and which refusals each command has."""
 
-import os
 import re
-import sys
+from typing import NamedTuple, Optional
 
-sys.path.insert(1, os.path.join(os.path.dirname(os.path.abspath(__file__)), "../../tests"))
-from common.outcome import Wrong  # noqa: E402 (after the path)
+from common.outcome import require
 
-NAMES = dict(
-    enumerate(
-        """
+NAMES = """
     OutOfMemory BadScript DimensionTooLarge NoFont BadTfm SlotTaken NoOpenList WrongMode WrongKind ListTooLong TooDeep InfiniteShrink TooManyBreaks
-    HugePage TooManyPages TooMuchShipped ListsOpen Device JobOver BadDvi VoidBox TooMuchSpecial""".split(),
-        1,
-    )
-)
+    HugePage TooManyPages TooMuchShipped ListsOpen Device JobOver BadDvi VoidBox TooMuchSpecial""".split()
 FONT_CAUSES = "TooShort|Counts|DesignSize|CharInfo|FixWord|LigKern"
 SCRIPT_CAUSES = "Byte|Word|Missing|Extra|Number|Dimension|Name"
 FILE_CAUSES = "Trailer|Version|Opcode|Pointer|Count|Preamble|Truncated|Stack|Glyph|Range|Font"
@@ -50,15 +43,13 @@ def commands():
 
 def refusal_pattern(numbers):
     """The refusals of these numbers, and JobOver, which a device that failed leads to."""
-    known = [
-        "%d %s" % (it, NAMES[it]) if it != 5 else "5 BadTfm (?:%s)" % FONT_CAUSES
-        for it in (*numbers, 19)
-    ]
-    return "refused (?:%s)" % "|".join(known)
+    causes = {5: f" (?:{FONT_CAUSES})"}
+    known = [f"{it} {NAMES[it - 1]}{causes.get(it, '')}" for it in (*numbers, 19)]
+    return f"refused (?:{'|'.join(known)})"
 
 
 REPLIES = {
-    word: re.compile("(?:%s|%s)" % (answer, refusal_pattern(numbers)))
+    word: re.compile(f"(?:{answer}|{refusal_pattern(numbers)})")
     for word, answer, numbers in commands()
 }
 END = re.compile(r"end: (?:pages (\d+) bytes (\d+)|%s)" % refusal_pattern((17, 1, 18)))
@@ -86,40 +77,28 @@ VERSION = re.compile(
 )
 
 
-class Ran:
+class Ran(NamedTuple):
     """The end of a run: its status, both outputs, the file that it wrote or None, its seconds of
     processor, and its greatest memory in bytes."""
 
-    def __init__(self, status, output, errors, made=None, seconds=0.0, memory=0):
-        self.status, self.output, self.errors, self.made, self.seconds, self.memory = (
-            status,
-            output,
-            errors,
-            made,
-            seconds,
-            memory,
-        )
+    status: int
+    output: bytes
+    errors: bytes
+    made: Optional[bytes] = None
+    seconds: float = 0.0
+    memory: int = 0
 
     def same(self, other):
-        return (self.status, self.output, self.errors, self.made) == (
-            other.status,
-            other.output,
-            other.errors,
-            other.made,
-        )
-
-
-def require(holds, why, *words):
-    if not holds:
-        raise Wrong(why % words)
+        """Whether another run has the same results."""
+        return self[:4] == other[:4]
 
 
 def command_lines(script):
     """The numbers and commands of the lines that are not passed over."""
     lines = script.split(b"\n")
     for number, line in enumerate(lines, 1):
-        if line.endswith(b"\r") and number < len(lines):
-            line = line[:-1]
+        if number < len(lines):
+            line = line.removesuffix(b"\r")
         if line and not line.startswith(b"%"):
             yield number, line.split()[0].decode("latin-1") if line.split() else ""
 
@@ -128,26 +107,17 @@ def check_replies(script, replies):
     """Each command has one reply, and it is one that this command has; a bad line of a session has
     its refusal."""
     commands = list(command_lines(script))
-    require(
-        len(commands) == len(replies), "%d commands have %d replies", len(commands), len(replies)
-    )
+    require(len(commands) == len(replies), f"{len(commands)} commands have {len(replies)} replies")
     shipped = 0
     for (number, word), reply in zip(commands, replies):
         bad = BAD_LINE.fullmatch(reply)
-        if bad:
-            require(int(bad[1]) == number, "line %d is answered %r", number, reply)
-            continue
         at, _, text = reply.partition(": ")
-        require(
-            at == str(number) and word in REPLIES and REPLIES[word].fullmatch(text),
-            "line %d, %s, is answered %r",
-            number,
-            word,
-            reply,
-        )
+        is_right = at == str(number) and word in REPLIES and REPLIES[word].fullmatch(text)
+        is_right = int(bad[1]) == number if bad else is_right
+        require(is_right, f"line {number}, {word}, is answered {reply!r}")
         if text.startswith("shipped"):
             shipped += 1
-            require(text == "shipped %d" % shipped, "page %d is answered %r", shipped, reply)
+            require(text == f"shipped {shipped}", f"page {shipped} is answered {reply!r}")
     return shipped
 
 
@@ -157,74 +127,51 @@ def check_run(script, output, is_session=False):
     the answers."""
     bad = None if is_session else BAD_SCRIPT.fullmatch(output.decode("latin-1"))
     if bad:
-        require(1 <= int(bad[1]) <= script.count(b"\n") + 1, "the bad line is %s", bad[1])
+        require(1 <= int(bad[1]) <= script.count(b"\n") + 1, f"the bad line is {bad[1]}")
         return "bad", None, b""
     if output == b"refused 1 OutOfMemory\n":
         return "no memory", None, b""
-    head, found, rest = (
-        output.rpartition(b"\nend: ")
-        if not output.startswith(b"end: ")
-        else (b"", b"end: ", output[5:])
-    )
-    require(found, "there is no end: %r", output[-200:])
+    head, found, rest = (b"\n" + output).rpartition(b"\nend: ")
+    require(found, f"there is no end: {output[-200:]!r}")
     end, _, rest = rest.partition(b"\n")
     said = END.fullmatch("end: " + end.decode("latin-1"))
-    require(said, "the end is %r", end)
-    replies = head.decode("latin-1").split("\n") if head else []
+    require(said, f"the end is {end!r}")
+    replies = head.decode("latin-1").split("\n")[1:]
     shipped = check_replies(script, replies)
-    require(
-        is_session or not any(map(BAD_LINE.fullmatch, replies)),
-        "one line alone is bad: %r",
-        output[:200],
-    )
-    refused = b"refused " in output
-    require(
-        not said[1] or int(said[1]) == shipped,
-        "%d pages were shipped, and the end says %r",
-        shipped,
-        end,
-    )
-    return (
-        "refused" if refused else "accepted",
-        (int(said[1]), int(said[2])) if said[1] else None,
-        rest,
-    )
+    is_script = is_session or not any(map(BAD_LINE.fullmatch, replies))
+    require(is_script, f"one line alone is bad: {output[:200]!r}")
+    is_counted = not said[1] or int(said[1]) == shipped
+    require(is_counted, f"{shipped} pages were shipped, and the end says {end!r}")
+    counts = (int(said[1]), int(said[2])) if said[1] else None
+    return "refused" if b"refused " in output else "accepted", counts, rest
 
 
 def check_listing(output):
     """Checks a listing, and returns how many pages it has."""
-    pages = 0
-    for line in output.split(b"\n")[:-1]:
+    pages, (*lines, last) = 0, output.split(b"\n")
+    for line in lines:
         page = PAGE.fullmatch(line)
-        if page:
-            pages += 1
-        require(
-            page and int(page[1]) == pages or pages and MARK.fullmatch(line), "%r is listed", line
-        )
-    require(not output or output.endswith(b"\n"), "the listing ends with %r", output[-20:])
+        pages += bool(page)
+        is_right = int(page[1]) == pages if page else pages and MARK.fullmatch(line)
+        require(is_right, f"{line!r} is listed")
+    require(not last, f"the listing ends with {last[-20:]!r}")
     return pages
 
 
 def check_bitmap(output):
     """Checks the form of a bitmap."""
     head = re.match(rb"P1\n(\d+) (\d+)\n", output)
-    require(head, "%r is painted", output[:50])
-    width, height = int(head[1]), int(head[2])
+    require(head, f"{output[:50]!r} is painted")
+    width, height = map(int, head.groups())
     row = b"".join(b"0" * min(70, width - at) + b"\n" for at in range(0, width, 70))
-    require(
-        1 <= width <= 10000
-        and 1 <= height <= 10000
-        and output[head.end() :].replace(b"1", b"0") == row * height,
-        "a bitmap of %d by %d has %d bytes",
-        width,
-        height,
-        len(output),
-    )
+    is_size = 1 <= width <= 10000 and 1 <= height <= 10000
+    is_drawn = is_size and output[head.end() :].replace(b"1", b"0") == row * height
+    require(is_drawn, f"a bitmap of {width} by {height} has {len(output)} bytes")
 
 
 def check_fonts(output):
     """Checks the form of what `fonts` prints."""
-    require(FONTS.fullmatch(output), "the fonts are %r", output[:200])
+    require(FONTS.fullmatch(output), f"the fonts are {output[:200]!r}")
 
 
 CHECKS = {b"list": check_listing, b"paint": check_bitmap, b"fonts": check_fonts}
@@ -235,28 +182,16 @@ def check_reading(ran, length, command):
     came of it."""
     refused = READING_REFUSED.fullmatch(ran.output.decode("latin-1"))
     if refused:
-        require(
-            ran.status == 1 and not ran.errors,
-            "refused with status %d, %r",
-            ran.status,
-            ran.errors[:200],
-        )
-        require(
-            not refused[1] or length is None or int(refused[1]) <= length,
-            "the place is %s of %s",
-            refused[1],
-            length,
-        )
+        is_right = ran.status == 1 and not ran.errors
+        require(is_right, f"refused with status {ran.status}, {ran.errors[:200]!r}")
+        is_inside = not refused[1] or length is None or int(refused[1]) <= length
+        require(is_inside, f"the place is {refused[1]} of {length}")
         return ran.output.split()[2].decode()
     if ran.errors == b"boxglue: no such page\n":
-        require(
-            command == b"paint" and ran.status == 2 and not ran.output,
-            "no such page, with status %d and %r",
-            ran.status,
-            ran.output[:200],
-        )
+        is_right = command == b"paint" and ran.status == 2 and not ran.output
+        require(is_right, f"no such page, with status {ran.status} and {ran.output[:200]!r}")
         return "no such page"
-    require(ran.status == 0 and not ran.errors, "status %d, %r", ran.status, ran.errors[:200])
+    require(ran.status == 0 and not ran.errors, f"status {ran.status}, {ran.errors[:200]!r}")
     CHECKS[command](ran.output)
     return "accepted"
 
@@ -264,22 +199,13 @@ def check_reading(ran, length, command):
 def check_streams(ran):
     """Checks what holds for every run: a documented status, and a text where one is promised.
     Returns the message on standard error, or b""."""
-    require(ran.status in (0, 1, 2), "the status is %d, %r", ran.status, ran.errors[-300:])
     message = ONE_MESSAGE.fullmatch(ran.errors)
-    if ran.status == 0:
-        require(not ran.errors, "status 0, and %r", ran.errors[:200])
-    elif ran.status == 1:
-        require(
-            message and message[1] or not ran.errors and b"refused " in ran.output,
-            "status 1, %r, %r",
-            ran.output[:200],
-            ran.errors[:200],
-        )
-    else:
-        require(
-            (HELP.match(ran.errors) or message and not message[1]) and not ran.output,
-            "status 2, %r, %r",
-            ran.output[:200],
-            ran.errors[:200],
-        )
+    is_about_a_file = message and message[1]
+    is_right = {
+        0: not ran.errors,
+        1: is_about_a_file or not ran.errors and b"refused " in ran.output,
+        2: (HELP.match(ran.errors) or message and not is_about_a_file) and not ran.output,
+    }
+    said = f"status {ran.status}, {ran.output[:200]!r}, {ran.errors[-300:]!r}"
+    require(is_right.get(ran.status), said)
     return message[1] or b"words" if message else b""

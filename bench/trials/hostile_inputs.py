@@ -4,107 +4,87 @@ and on the DVI files that the program makes of good scripts. So each can be made
 Most inputs are good ones with a few changes, since random bytes are refused at the first of them.
 hostile_scripts.py makes the scripts."""
 
-import argparse
 import glob
 import os
 import re
-import sys
+from dataclasses import dataclass, field
+from typing import Optional
 
-ROOT = os.path.dirname(os.path.dirname(os.path.dirname(os.path.abspath(__file__))))
-sys.path[:0] = [ROOT + "/tests", ROOT + "/bench"]
-from models.dvi_writer import Font, Page, dvi_file  # noqa: E402
-from models.every_instruction import every_instruction  # noqa: E402
-from models.large_inputs import TINY  # noqa: E402
-from common.library_inputs import case_script, font_files  # noqa: E402
-from models.plain_font import metric_file  # noqa: E402
-from generator import HOSTILE_SEEDS, Chance, changed, changed_metrics, framed, sheet  # noqa: E402
-from hostile_scripts import changed_script, large_script, random_script  # noqa: E402
-from hostile_sessions import ODD_OUTS, WHOLE, Talk  # noqa: E402
+from trial import ROOT
+from common.files import content
+from common.library_inputs import SHEET, case_script, font_files
+from generator import HOSTILE_SEEDS, Chance, changed, changed_metrics, framed, sheet
+from hostile_scripts import changed_script, large_script, random_script
+from hostile_sessions import ODD_OUTS, WHOLE, Talk
+from models.dvi_writer import Font, Page, dvi_file
+from models.every_instruction import every_instruction
+from models.large_inputs import TINY
+from models.plain_font import metric_file
 
 # Twenty inputs have these kinds, and so has each next twenty.
 KINDS = ("script",) * 5 + ("session",) * 2 + ("dvi",) * 6 + ("metrics",) * 3 + ("words",) * 4
 LONGEST_GOOD = 20_000
 
 
-def parser_of(about, count=False):
-    """A parser of the words that the trials have in common."""
-    parser = argparse.ArgumentParser(
-        description=about, formatter_class=argparse.RawDescriptionHelpFormatter
-    )
-    parser.add_argument(
-        "--boxglue", default=os.environ.get("BOXGLUE", ROOT + "/crates/boxglue/out/boxglue")
-    )
-    if count:
-        parser.add_argument("--count", type=int, default=100_000, help="how many inputs")
-        parser.add_argument("--first", type=int, default=0, help="the number of the first")
-    return parser
-
-
+@dataclass
 class Input:
     """A run: its kind and the way it was made, its words, what standard input gives, and the files
     of its folder. `script` is what it runs, `out` where its file goes; `talk` is how a session is
     written to."""
 
-    def __init__(self, kind, way, words, given=b"", files=None, script=None, out=None, talk=None):
-        (
-            self.kind,
-            self.way,
-            self.words,
-            self.given,
-            self.files,
-            self.script,
-            self.out,
-            self.talk,
-        ) = (kind, way, words, given, files or {}, script, out, talk)
+    kind: str
+    way: str
+    words: list
+    given: bytes = b""
+    files: dict = field(default_factory=dict)
+    script: Optional[bytes] = None
+    out: Optional[str] = None
+    talk: Optional[Talk] = None
 
 
 class Good:
     """The good inputs. `typeset` makes the file of a script."""
 
     def __init__(self, typeset):
-        with open(ROOT + "/crates/rows_scripts/stdin", "rb") as file:
-            text = file.read()
+        text = content(ROOT + "/crates/rows_scripts/stdin")
         self.fonts = {name.decode(): data for name, data in font_files(text).items()}
         self.fonts["plain"] = metric_file()
-        self.metrics = list(self.fonts.values()) + [TINY]
-        scripts = [self.read(path) for path in sorted(glob.glob(ROOT + "/examples/*.box"))]
-        scripts += [
-            case_script(it.split(b"\n")) for it in re.split(rb"^case .*\n", text, flags=re.M)[1:]
-        ]
+        self.metrics = [*self.fonts.values(), TINY]
+        scripts = [content(path) for path in sorted(glob.glob(ROOT + "/examples/*.box"))]
+        cases = re.split(rb"^case .*\n", text, flags=re.M)[1:]
+        scripts += [case_script(it.split(b"\n")) for it in cases]
         self.scripts = [it for it in scripts if len(it) < LONGEST_GOOD]
-        self.files = []
-        for script in self.scripts:
-            fonts = self.fonts_of(script)
-            data = typeset(script, fonts)
-            if data and len(data) < LONGEST_GOOD:
-                self.files.append((data, fonts))
-        for path in sorted(glob.glob(ROOT + "/tests/cases/program/*/files/*.dvi")):
-            self.files.append((self.read(path), {"tiny": TINY}))
+        made = [(typeset(it, self.fonts_of(it)), self.fonts_of(it)) for it in self.scripts]
+        self.files = [it for it in made if it[0] and len(it[0]) < LONGEST_GOOD]
+        paths = sorted(glob.glob(ROOT + "/tests/cases/program/*/files/*.dvi"))
+        self.files += [(content(path), {"tiny": TINY}) for path in paths]
         # As many as a twentieth, since it has each instruction in all sizes of its number.
         self.files += [(every_instruction(), {"tiny": TINY})] * (len(self.files) // 20)
 
-    @staticmethod
-    def read(path):
-        with open(path, "rb") as file:
-            return file.read()
-
     def fonts_of(self, script):
         """The metric files that a script names."""
-        names = {
-            it.decode() for it in re.findall(rb"^ *font +\d+ +([\w.-]{1,99})", script, flags=re.M)
-        }
-        return {name: self.fonts.get(name, self.fonts["plain"]) for name in sorted(names)}
+        names = sorted({*re.findall(rb"(?m)^ *font +\d+ +([\w.-]{1,99})", script)})
+        return {it.decode(): self.fonts.get(it.decode(), self.fonts["plain"]) for it in names}
+
+    def usual_fonts(self, script):
+        """These, and two that other scripts name."""
+        return {"tiny": TINY, "plain": self.fonts["plain"], **self.fonts_of(script)}
 
 
 def font_words(fonts):
     """The words that give fonts. A name may begin as an option does."""
-    return ["--"] * any(it.startswith("-") for it in fonts) + [
-        "%s=%s.tfm" % (name, name) for name in fonts
-    ]
+    is_like_an_option = any(it.startswith("-") for it in fonts)
+    return ["--"] * is_like_an_option + [f"{it}={it}.tfm" for it in fonts]
 
 
 def font_paths(fonts):
     return {name + ".tfm": data for name, data in fonts.items()}
+
+
+def run_input(kind, way, script, fonts, command="typeset", out="out.dvi", talk=None):
+    """A run of a script, whose file goes to `out`."""
+    words = [command, out, *font_words(fonts)]
+    return Input(kind, way, words, script, font_paths(fonts), script, out, talk)
 
 
 # Scripts
@@ -121,12 +101,10 @@ def any_script(chance, good):
             script = bytes(b" \nabdehikoprtux019.-%"[it % 21] for it in script)
     elif way == "bytes changed":
         script = changed(chance, chance.pick(good.scripts), chance.pick(good.scripts))[1]
+    elif way == "changed":
+        script = changed_script(chance, good)
     else:
-        script = {
-            "changed": lambda: changed_script(chance, good),
-            "commands": lambda: random_script(chance),
-            "large": lambda: large_script(chance),
-        }[way]()
+        script = (large_script if way == "large" else random_script)(chance)
     return way, script
 
 
@@ -134,16 +112,7 @@ def script_input(chance, good):
     way, script = any_script(chance, good)
     if chance.one_in(4):
         return Input("script", way, [], script, script=script)
-    fonts = {"tiny": TINY, "plain": good.fonts["plain"], **good.fonts_of(script)}
-    return Input(
-        "script",
-        way,
-        ["typeset", "out.dvi", *font_words(fonts)],
-        script,
-        font_paths(fonts),
-        script,
-        "out.dvi",
-    )
+    return run_input("script", way, script, good.usual_fonts(script))
 
 
 # Sessions
@@ -155,17 +124,7 @@ def session_input(chance, good):
     _, script = any_script(chance, good)
     talk = Talk(chance, script)
     out = chance.pick(ODD_OUTS) if talk.way in WHOLE and chance.one_in(15) else "out.dvi"
-    fonts = {"tiny": TINY, "plain": good.fonts["plain"], **good.fonts_of(script)}
-    return Input(
-        "session",
-        talk.way,
-        ["session", out, *font_words(fonts)],
-        script,
-        font_paths(fonts),
-        script,
-        out,
-        talk,
-    )
+    return run_input("session", talk.way, script, good.usual_fonts(script), "session", out, talk)
 
 
 # DVI files
@@ -173,34 +132,21 @@ def session_input(chance, good):
 
 def reading(chance, kind, way, data, fonts):
     """`list` of a file, `fonts` of it, or `paint` of a page of it."""
-    words = ["list"]
+    words, files = ["list"], {"f.dvi": data, **font_paths(fonts)}
     if chance.one_in(4):
-        words = [
-            "paint",
-            *[
-                it
-                for pair in zip(("--page", "--dpi", "--width", "--height"), sheet(chance))
-                for it in pair
-            ],
-        ]
+        words = ["paint", *SHEET]
+        words[2::2] = sheet(chance)
     elif chance.one_in(5):
-        return Input(kind, way, ["fonts", "f.dvi"], files={"f.dvi": data, **font_paths(fonts)})
-    return Input(
-        kind, way, [*words, "f.dvi", *font_words(fonts)], files={"f.dvi": data, **font_paths(fonts)}
-    )
+        return Input(kind, way, ["fonts", "f.dvi"], files=files)
+    return Input(kind, way, [*words, "f.dvi", *font_words(fonts)], files=files)
 
 
 def dvi_input(chance, good):
     if chance.one_in(4):
         return reading(chance, "dvi", "framed", framed(chance), {"tiny": TINY})
     if chance.one_in(20):
-        return reading(
-            chance,
-            "dvi",
-            "bytes",
-            chance.bytes(chance.below(400)) + b"\xdf" * chance.below(9),
-            {"tiny": TINY},
-        )
+        data = chance.bytes(chance.below(400)) + b"\xdf" * chance.below(9)
+        return reading(chance, "dvi", "bytes", data, {"tiny": TINY})
     data, fonts = chance.pick(good.files)
     way, data = changed(chance, data, chance.pick(good.files)[0])
     return reading(chance, "dvi", way, data, fonts)
@@ -219,43 +165,28 @@ def metrics_input(chance, good):
     way, data = changed_metrics(chance, chance.pick(good.metrics), chance.pick(good.metrics))
     if chance.one_in(3):
         glyphs = bytes([171]) + bytes(it for it in chance.bytes(chance.below(6)) if it < 128)
-        made = dvi_file(
-            [
-                Page(
-                    [glyphs],
-                    new_fonts=(Font(0, b"f", chance.pick((655360, 1, 2**27 - 1, 2**26))),),
-                )
-            ],
-            0,
-            0,
-        )
+        font = Font(0, b"f", chance.pick((655360, 1, 2**27 - 1, 2**26)))
+        made = dvi_file([Page([glyphs], new_fonts=(font,))], 0, 0)
         return reading(chance, "metrics", way, made.data, {"f": data})
-    return Input(
-        "metrics",
-        way,
-        ["typeset", "out.dvi", "f=f.tfm"],
-        USE_ALL,
-        {"f.tfm": data},
-        USE_ALL,
-        "out.dvi",
-    )
+    return run_input("metrics", way, USE_ALL, {"f": data})
 
 
 # Command lines
 
-ODD_PATHS = (
+ODD_PATHS = [
     *"absent absent/page.dvi . folder f.dvi script tiny.tfm f.dvi/x".split(),
     "",
     *"- /dev/null /dev/stdin out.dvi loop no".split(),
-)
-ODD_NUMBERS = "0 1 2 -1 72 +72 007 10000 10001 4294967295 4294967296 99999999999999999999 1.5 x 1e3 0x10".split() + [
-    "",
-    " 1",
-    "9" * 5000,
 ]
+ODD_NUMBERS = """0 1 2 -1 72 +72 007 10000 10001 4294967295 4294967296 99999999999999999999 1.5 x 1e3
+    0x10""".split()
+ODD_NUMBERS += ["", " 1", "9" * 5000]
 ODD_PAIRS = """
     tiny=tiny.tfm tiny=tiny.tfm a=tiny.tfm tiny=absent tiny=. tiny= =tiny.tfm = tiny tiny==
     tiny=f.dvi tiny=/dev/null tiny=tiny.tfm=x""".split()
+ODD_OPTIONS = """--help -h -V --version -- help list paint typeset session fonts --page -p --dpi= -hV
+    --- --no lists TYPESET""".split()
+OPTIONS = SHEET[::2]
 
 
 def odd_word(chance):
@@ -263,20 +194,14 @@ def odd_word(chance):
     if way == 0:
         return bytes(1 + it % 255 for it in chance.bytes(chance.below(12)))
     if way == 1:
-        return chance.pick((b"a", b"=", b"n=", b"-", b"--page=")) * chance.pick(
-            (1, 100, 255, 256, 5000, 18000)
-        )
+        piece = chance.pick((b"a", b"=", b"n=", b"-", b"--page="))
+        return piece * chance.pick((1, 100, 255, 256, 5000, 18000))
     if way == 2:
         return b"n" * chance.pick((254, 255, 256)) + b"=tiny.tfm"
     if way == 3:
-        return chance.pick(
-            "--help -h -V --version -- help list paint typeset session fonts --page -p --dpi= -hV --- --no lists TYPESET".split()
-        ).encode()
+        return chance.pick(ODD_OPTIONS).encode()
     if way == 4:
-        return (
-            chance.pick((b"--page=", b"--dpi=", b"--width=", b"--height="))
-            + chance.pick(ODD_NUMBERS).encode()
-        )
+        return f"{chance.pick(OPTIONS)}={chance.pick(ODD_NUMBERS)}".encode()
     return chance.pick(ODD_PAIRS if way < 7 else ODD_PATHS).encode()
 
 
@@ -289,10 +214,9 @@ def path_of(chance, runs):
 
 def paint_options(chance):
     """The options of `paint`, some with odd numbers."""
-    good = ("1", "2", "30")
-    pick = lambda: chance.pick(ODD_NUMBERS) if chance.one_in(4) else chance.pick(good)
-    numbers = [pick().encode() for _ in range(4)]
-    return [b"--%s=%s" % it for it in zip((b"page", b"dpi", b"width", b"height"), numbers)]
+    for option in OPTIONS:
+        number = chance.pick(ODD_NUMBERS if chance.one_in(4) else ("1", "2", "30"))
+        yield f"{option}={number}".encode()
 
 
 def words_input(chance, good):
@@ -300,16 +224,11 @@ def words_input(chance, good):
     data, fonts = chance.pick(good.files)
     script = chance.pick(good.scripts) if chance.one_in(2) else random_script(chance)
     files = {"f.dvi": data, "script": script, "tiny.tfm": TINY, **font_paths(fonts)}
-    way = chance.pick(
-        ("typeset", "typeset", "session", "list", "list", "fonts", "paint", "paint", "any")
-    )
+    way = chance.pick("typeset typeset session list list fonts paint paint any".split())
     runs = way in ("typeset", "session")
-    pairs = [
-        it.encode()
-        for it in ([] if way == "fonts" else font_words(good.fonts_of(script) if runs else fonts))
-    ]
-    path = path_of(chance, runs).encode()
-    words = [way.encode(), path, *pairs]
+    named = good.fonts_of(script) if runs else fonts
+    pairs = [] if way == "fonts" else [it.encode() for it in font_words(named)]
+    words = [way.encode(), path_of(chance, runs).encode(), *pairs]
     if way == "paint":
         words[1:1] = paint_options(chance)
     if way == "any":
@@ -321,12 +240,9 @@ def words_input(chance, good):
     if chance.one_in(200):
         words += [b"n%d=tiny.tfm" % at for at in range(chance.below(2000))]
     if runs:
-        files.update({it + ".tfm": font for it, font in good.fonts_of(script).items()})
-    out = (
-        next((os.fsdecode(it) for it in words[1:] if it != b"--"), None)
-        if words[:1] in ([b"typeset"], [b"session"])
-        else None
-    )
+        files.update(font_paths(named))
+    places = [os.fsdecode(it) for it in words[1:] if it != b"--"]
+    out = places[0] if places and words[0] in (b"typeset", b"session") else None
     return Input("words", way, words, script, files, script, out)
 
 

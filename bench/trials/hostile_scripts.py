@@ -5,21 +5,22 @@ import re
 import generator
 from generator import PARAMETERS
 
-DIMENSIONS = (
-    "0pt 1sp -1sp 5pt 10pt 1pt -2.5pt 16383.99999pt -16383.99999pt 1073741823sp -1073741823sp 536870912sp 8191.99999pt 0.00001pt 22.75in 575.8cm 5758.3mm 1276cc "
-    "300pt 40pt 65536sp 16383.99998pt 1000pt .5pt 1.pt -1000pt 134217727sp +0001pt"
-).split()
-BAD_DIMENSIONS = "16384pt -16384pt 1073741824sp pt 1 .pt 1em 1,5pt --1pt 1PT 99999999999999999999pt 1e3pt * 0.pt. 1fil".split() + [
-    "9" * 400 + "sp",
-    "0." + "9" * 400 + "pt",
-]
+DIMENSIONS = """
+    0pt 1sp -1sp 5pt 10pt 1pt -2.5pt 16383.99999pt -16383.99999pt 1073741823sp -1073741823sp
+    536870912sp 8191.99999pt 0.00001pt 22.75in 575.8cm 5758.3mm 1276cc 300pt 40pt 65536sp
+    16383.99998pt 1000pt .5pt 1.pt -1000pt 134217727sp +0001pt""".split()
+BAD_DIMENSIONS = """16384pt -16384pt 1073741824sp pt 1 .pt 1em 1,5pt --1pt 1PT
+    99999999999999999999pt 1e3pt * 0.pt. 1fil""".split()
+BAD_DIMENSIONS += ["9" * 400 + "sp", "0." + "9" * 400 + "pt"]
 ORDERS = "1fil -1fil 1fill 1filll 0fil 16383.99999filll -16383.99999fil .00001fil -.5filll".split()
-NUMBERS = (
-    "0 1 -1 100 10000 -10000 9999 -9999 500000000 -500000000 +003 -0 32 200 10 250000000".split()
-)
-BAD_NUMBERS = "500000001 -500000001 2147483648 -2147483649 99999999999999999999 1pt x 32768 256 10 0x1 1.0 -".split()
+NUMBERS = """
+    0 1 -1 100 10000 -10000 9999 -9999 500000000 -500000000 +003 -0 32 200 10 250000000""".split()
+BAD_NUMBERS = """500000001 -500000001 2147483648 -2147483649 99999999999999999999 1pt x 32768 256 10
+    0x1 1.0 -""".split()
 REGISTERS = "0 0 0 1 1 2 3 7 32767 00 +1".split()
 LETTERS = "abcdeabcde zfi-`'"
+UNBOXES = "unhbox unhcopy unvbox unvcopy lastbox measure void".split()
+ODD_FIELDS = [*"to into plus minus shift at end".split(), "", " ", "\t", "\r"]
 
 
 def dimension(chance):
@@ -33,19 +34,19 @@ def stretch(chance):
 
 
 def glue(chance):
-    return generator.glue(
-        chance, dimension(chance), lambda: stretch(chance), lambda: stretch(chance)
-    )
+    more = lambda: stretch(chance)
+    return generator.glue(chance, dimension(chance), more, more)
+
+
+VALUES = {"dimension": dimension, "glue": glue, "number": lambda it: it.pick(NUMBERS)}
 
 
 def parameter(chance):
-    kind = chance.pick(("dimension", "glue", "number", "firstlines"))
+    kind = chance.pick((*VALUES, "firstlines"))
     if kind == "firstlines":
-        return "set firstlines %d" % chance.below(33)
-    value = {"dimension": dimension, "glue": glue, "number": lambda it: it.pick(NUMBERS)}[kind](
-        chance
-    )
-    return "set %s %s" % (chance.pick(PARAMETERS[kind]), value)
+        return f"set firstlines {chance.below(33)}"
+    value = VALUES[kind](chance)
+    return f"set {chance.pick(PARAMETERS[kind])} {value}"
 
 
 def opened(chance):
@@ -66,42 +67,37 @@ def running(chance):
     return "*" if chance.one_in(5) else dimension(chance)
 
 
+def moved_box(chance):
+    words = f"{chance.pick(('box', 'copy'))} {chance.pick(REGISTERS)}"
+    return words + (" shift " + dimension(chance) if chance.one_in(3) else "")
+
+
+def font(chance):
+    words = f"font {chance.below(256)} {chance.pick(('tiny', 'plain', 'tiny', 'absent'))}"
+    return words + (f" at {1 + chance.below(134217727)}sp" if chance.one_in(2) else "")
+
+
 # Each kind of command as often as it is here.
 COMMANDS = [
-    opened,
-    opened,
-    opened,
-    lambda it: "end",
-    lambda it: "end",
-    lambda it: "end",
-    lambda it: "end",
-    lambda it: "par",
-    lambda it: "par",
-    text,
-    text,
-    lambda it: "rule %s %s %s" % (running(it), running(it), running(it)),
-    lambda it: "rule %s 1pt 0pt" % dimension(it),
+    *[opened] * 3,
+    *[lambda it: "end"] * 4,
+    *[lambda it: "par"] * 2,
+    *[text] * 2,
+    lambda it: f"rule {running(it)} {running(it)} {running(it)}",
+    lambda it: f"rule {dimension(it)} 1pt 0pt",
     lambda it: "kern " + dimension(it),
-    lambda it: "glue " + glue(it),
-    lambda it: "glue " + glue(it),
+    *[lambda it: "glue " + glue(it)] * 2,
     lambda it: "penalty " + it.pick(NUMBERS),
     parameter,
-    lambda it: "char %d" % it.below(256),
+    lambda it: f"char {it.below(256)}",
     lambda it: "special " + "".join(it.pick(LETTERS) for _ in range(it.below(30))),
-    lambda it: it.pick(("box", "copy"))
-    + " "
-    + it.pick(REGISTERS)
-    + (" shift " + dimension(it) if it.one_in(3) else ""),
-    lambda it: it.pick(("unhbox", "unhcopy", "unvbox", "unvcopy", "lastbox", "measure", "void"))
-    + " "
-    + it.pick(REGISTERS),
-    lambda it: "vsplit %s to %s into %s" % (it.pick(REGISTERS), dimension(it), it.pick(REGISTERS)),
-    lambda it: "ship " + it.pick(REGISTERS),
-    lambda it: "ship " + it.pick(REGISTERS),
-    lambda it: "count %d %d" % (it.below(10), it.below(2**32) - 2**31),
-    lambda it: "font %d %s" % (it.below(256), it.pick(("tiny", "plain", "tiny", "absent")))
-    + (" at %dsp" % (1 + it.below(134217727)) if it.one_in(2) else ""),
-    lambda it: "use %d" % it.below(4),
+    moved_box,
+    lambda it: f"{it.pick(UNBOXES)} {it.pick(REGISTERS)}",
+    lambda it: f"vsplit {it.pick(REGISTERS)} to {dimension(it)} into {it.pick(REGISTERS)}",
+    *[lambda it: "ship " + it.pick(REGISTERS)] * 2,
+    lambda it: f"count {it.below(10)} {it.below(2**32) - 2**31}",
+    font,
+    lambda it: f"use {it.below(4)}",
 ]
 
 
@@ -135,10 +131,7 @@ def bad_line(chance, line):
     elif way == 2:
         del fields[place]
     elif way == 3:
-        fields.insert(
-            place,
-            chance.pick(("to", "into", "plus", "minus", "shift", "at", "end", "", " ", "\t", "\r")),
-        )
+        fields.insert(place, chance.pick(ODD_FIELDS))
     else:
         fields.append(chance.pick(("0", "1pt", "end", "*")))
     return " ".join(fields)
@@ -159,13 +152,11 @@ def changed_script(chance, good):
         elif way == 3:
             lines.insert(place, command(chance).encode())
         elif way == 4:
-            lines[place] = re.sub(
-                rb"-?[\d.]+(?:pt|sp|mm|in)", lambda _: dimension(chance).encode(), lines[place]
-            )
+            amount = lambda _: dimension(chance).encode()
+            lines[place] = re.sub(rb"-?[\d.]+(?:pt|sp|mm|in)", amount, lines[place])
         elif way == 5:
-            lines[place] = re.sub(
-                rb" -?\d+$", lambda _: b" " + chance.pick(NUMBERS).encode(), lines[place]
-            )
+            number = lambda _: b" " + chance.pick(NUMBERS).encode()
+            lines[place] = re.sub(rb" -?\d+$", number, lines[place])
         elif way == 6:
             lines.append(b"ship %d" % chance.below(3))
         elif chance.one_in(3):
@@ -176,31 +167,26 @@ def changed_script(chance, good):
 def large_script(chance):
     """What is much from few bytes, or near a limit: copies of copies, boxes in boxes, long lists,
     texts and paragraphs."""
-    way = chance.below(7)
-    many = chance.below(9000)
-    lines = {
-        0: ["hbox into 0", "rule 1sp 1sp 1sp", "end"]
-        + ["hbox into 0", "copy 0", "copy 0", "end"] * chance.below(17)
-        + ["ship 0"],
-        1: ["hbox into 1", "end"]
-        + ["hbox into 1", "box 1", "end"] * chance.below(210)
-        + ["ship 1"],
-        2: ["hbox into 0"]
-        + ["kern 1sp"] * many
-        + ["end", "hbox into 1"]
-        + ["unhcopy 0"] * chance.below(20)
-        + ["end", "ship 1"],
-        3: ["vbox into 0", "par"]
-        + ["rule 1pt 1pt 0pt", "penalty %d" % (chance.below(3) - 1)] * many
-        + ["end", "end", "ship 0"],
-        4: ["hbox into 0", "special " + "s" * (65500 + chance.below(70))]
-        + ["hbox"] * chance.below(80)
-        + ["end"] * chance.below(80)
-        + ["ship 0"],
-        5: ["font 0 tiny at 1sp", "use 0", "hbox into 0"]
-        + ["text " + "ab c" * (1 + chance.below(2000))] * chance.below(12)
-        + ["end", "ship 0"],
-        6: ["hbox into 0", "rule 1sp 1sp 0sp", "end"]
-        + ["copy 0", "hbox into 1", "copy 0", "end", "ship 1"] * chance.below(600),
-    }[way]
-    return "\n".join(lines).encode()
+    way, many, up_to = chance.below(7), chance.below(9000), chance.below
+    rule, last = "hbox into 0\nrule 1sp 1sp %dsp\nend\n", "end\nship 0\n"
+    small = "font 0 tiny at 1sp\nuse 0\nhbox into 0\n"
+    scripts = (
+        rule % 1 + "hbox into 0\ncopy 0\ncopy 0\nend\n" * up_to(17) + "ship 0\n",
+        "hbox into 1\nend\n" + "hbox into 1\nbox 1\nend\n" * up_to(210) + "ship 1\n",
+        "hbox into 0\n"
+        + "kern 1sp\n" * many
+        + "end\nhbox into 1\n"
+        + "unhcopy 0\n" * up_to(20)
+        + "end\nship 1\n",
+        "vbox into 0\npar\n"
+        + f"rule 1pt 1pt 0pt\npenalty {up_to(3) - 1}\n" * many
+        + "end\n"
+        + last,
+        f"hbox into 0\nspecial {'s' * (65500 + up_to(70))}\n"
+        + "hbox\n" * up_to(80)
+        + "end\n" * up_to(80)
+        + "ship 0",
+        small + f"text {'ab c' * (1 + up_to(2000))}\n" * up_to(12) + last,
+        rule % 0 + "copy 0\nhbox into 1\ncopy 0\nend\nship 1\n" * up_to(600),
+    )
+    return scripts[way].strip().encode()

@@ -16,9 +16,11 @@ import struct
 import termios
 import time
 
-from hostile_answers import BAD_SCRIPT, Ran, require
+from common.files import content
+from common.outcome import require
+from hostile_answers import BAD_SCRIPT, Ran
 
-OUT, UNREAD = "out.dvi", b"boxglue: cannot read -\n"
+UNREAD = b"boxglue: cannot read -\n"
 # Outputs that cannot be written: `typeset` says the same of them.
 ODD_OUTS = ("/dev/full", "folder", "absent/out.dvi", "loop")
 PAGE = b"hbox into 0\nrule 1pt 1pt 0pt\nend\nship 0\n"
@@ -35,10 +37,8 @@ class Talk:
     and flags that the way takes."""
 
     def __init__(self, chance, text):
-        self.way = chance.pick(WAYS)
-        if self.way == "after the end" and (
-            len(text) > TERMINAL or not re.fullmatch(rb"[ -~\n]*", text)
-        ):
+        self.way, is_typed = chance.pick(WAYS), re.fullmatch(rb"[ -~\n]*", text)
+        if self.way == "after the end" and (len(text) > TERMINAL or not is_typed):
             self.way = "pieces"
         if self.way == "early end":
             text = text[: chance.below(len(text) + 1)]
@@ -70,12 +70,7 @@ def any_pieces(chance, text):
 
 def line_pieces(chance, text):
     """A text in pieces of whole lines, so many that they can be waited for one by one."""
-    lines = (
-        text.splitlines(keepends=True)
-        if b"\r" not in text
-        else [it + b"\n" for it in text.split(b"\n")[:-1]]
-        + [it for it in text.split(b"\n")[-1:] if it]
-    )
+    lines = re.findall(rb"[^\n]*\n|[^\n]+", text)
     most = 1 + chance.below(3) + len(lines) // MOST_WAITS
     return [b"".join(lines[at : at + most]) for at in range(0, len(lines), most)]
 
@@ -116,11 +111,8 @@ class Wanted:
         """The bytes of the pages: the file without what follows them, where the end was
         accepted."""
         made = self.made or b""
-        return (
-            made[: int.from_bytes(made.rstrip(b"\xdf")[-5:-1], "big")]
-            if made and b"refused" not in self.end
-            else made
-        )
+        is_whole = made and b"refused" not in self.end
+        return made[: int.from_bytes(made.rstrip(b"\xdf")[-5:-1], "big")] if is_whole else made
 
 
 class Partner:
@@ -132,8 +124,7 @@ class Partner:
         self.pid, self.writes, self.reads, self.heard, self.memory = None, writes, reads, b"", 0
 
     def measure(self):
-        with open("/proc/%d/status" % self.pid) as file:
-            found = re.search(r"VmHWM:\s*(\d+) kB", file.read())
+        found = re.search(rb"VmHWM:\s*(\d+) kB", content(f"/proc/{self.pid}/status"))
         self.memory = int(found[1]) * 1024 if found else 0
 
     def close(self, *names):
@@ -219,34 +210,25 @@ def connection():
         ours = socket.create_connection(server.getsockname())
         its, _ = server.accept()
     ours.setblocking(False)
-    ours.setsockopt(
-        socket.SOL_SOCKET, socket.SO_LINGER, struct.pack("ii", 1, 0)
-    )  # a close resets it
+    # A close resets it.
+    ours.setsockopt(socket.SOL_SOCKET, socket.SO_LINGER, struct.pack("ii", 1, 0))
     return its.detach(), ours.detach()
 
 
 def start(room, it, talk):
     """Starts a session. Returns its other side."""
-    given, writes = (
-        terminal()
-        if talk.way == "after the end"
-        else connection()
-        if talk.way == "reset"
-        else pipe(talk, 0)
-    )
-    said, reads = (
-        (os.open("/dev/full", os.O_WRONLY), None) if talk.way == "full output" else pipe(talk, 1)
-    )
+    inputs = {"after the end": terminal, "reset": connection}
+    given, writes = inputs.get(talk.way, lambda: pipe(talk, 0))()
+    is_full = talk.way == "full output"
+    said, reads = (os.open("/dev/full", os.O_WRONLY), None) if is_full else pipe(talk, 1)
     errors = os.open(room.streams + "/errors", os.O_RDWR | os.O_CREAT | os.O_TRUNC, 0o600)
-    partner = Partner(writes, reads)
-    actions = [
-        (os.POSIX_SPAWN_DUP2, its, number) for number, its in enumerate((given, said, errors))
-    ]
+    partner, its = Partner(writes, reads), (given, said, errors)
+    actions = [(os.POSIX_SPAWN_DUP2, stream, number) for number, stream in enumerate(its)]
     if talk.way == "closed streams":
         actions += [(os.POSIX_SPAWN_CLOSE, number) for number in talk.closed]
-    partner.pid = room.start(it.words, actions)
-    for its in (given, said, errors):
-        os.close(its)
+    partner.pid = room.spawn([room.program, *it.words], actions)
+    for stream in its:
+        os.close(stream)
     return partner
 
 
@@ -269,13 +251,8 @@ def hear_lines(partner, talk, wanted, count):
     """Hears the answers to the whole lines of so many pieces, and no more."""
     first = wanted.first(talk.lines(count))
     partner.hear(len(first))
-    require(
-        partner.heard == first,
-        "after %d pieces it answers %r, and not %r",
-        count,
-        partner.heard[-200:],
-        first[-200:],
-    )
+    said = f"after {count} pieces it answers {partner.heard[-200:]!r}, and not {first[-200:]!r}"
+    require(partner.heard == first, said)
 
 
 def end_of(partner, talk, wanted):
@@ -300,6 +277,11 @@ def end_of(partner, talk, wanted):
     partner.hear_all()
 
 
+def made_file(out):
+    """The bytes of a file, or None where it is none."""
+    return content(out) if out and os.path.isfile(out) else None
+
+
 def talk_with(room, it):
     """Has the talk of an input. Returns the run, and what was wanted."""
     talk = it.talk
@@ -312,60 +294,35 @@ def talk_with(room, it):
     finally:
         partner.close("reads", "writes")
         status, seconds, _ = room.end(partner.pid)
-    return (
-        Ran(
-            status,
-            partner.heard,
-            room.read(room.streams + "/errors"),
-            room.made(it.out),
-            seconds,
-            partner.memory,
-        ),
-        wanted,
-    )
+    errors, made = content(room.streams + "/errors"), made_file(it.out)
+    return Ran(status, partner.heard, errors, made, seconds, partner.memory), wanted
 
 
 def require_parts(ran, status, output, errors, made):
-    require(
-        ran.status == status,
-        "the status is %d and not %d, %r",
-        ran.status,
-        status,
-        ran.errors[-200:],
-    )
-    require(ran.output == output, "the answers are %r and not %r", ran.output[-200:], output[-200:])
-    require(
-        ran.errors == errors, "standard error is %r and not %r", ran.errors[-200:], errors[-200:]
-    )
-    require(
-        ran.made == made,
-        "the file has %s bytes and not %s",
-        ran.made and len(ran.made),
-        made and len(made),
-    )
+    """The parts of a run are these."""
+    said = "status", "answers", "standard error"
+    for name, found, its in zip(said, ran, (status, output, errors)):
+        shown = [it if isinstance(it, int) else it[-200:] for it in (found, its)]
+        require(
+            found == its, f"the {name} is {shown[0]!r} and not {shown[1]!r}, {ran.errors[-200:]!r}"
+        )
+    sizes = [it and len(it) for it in (ran.made, made)]
+    require(ran.made == made, "the file has %s bytes and not %s" % (*sizes,))
 
 
 def check_signal(room, it, ran, wanted):
     """A session that a signal ends: whole pages up to the last one that was answered, and perhaps a
     beginning of what came after."""
-    talk = it.talk
+    talk, made = it.talk, ran.made or b""
     answered = wanted.first(talk.lines(talk.at))
-    require(ran.status == -talk.number, "the status is %d after signal %d", ran.status, talk.number)
-    require(
-        ran.output.startswith(answered) and wanted.whole().startswith(ran.output),
-        "after a signal the answers are %r",
-        ran.output[-200:],
-    )
-    least, most = (
-        Wanted(room, it, text).pages() for text in (talk.lines(talk.at), talk.lines(talk.at + 2))
-    )
-    require(
-        (ran.made or b"").startswith(least) and most.startswith(ran.made or b""),
-        "after a signal the file has %d bytes, and not %d to %d",
-        len(ran.made or b""),
-        len(least),
-        len(most),
-    )
+    require(ran.status == -talk.number, f"the status is {ran.status} after signal {talk.number}")
+    is_right = ran.output.startswith(answered) and wanted.whole().startswith(ran.output)
+    require(is_right, f"after a signal the answers are {ran.output[-200:]!r}")
+    texts = talk.lines(talk.at), talk.lines(talk.at + 2)
+    least, most = (Wanted(room, it, text).pages() for text in texts)
+    sizes = len(made), len(least), len(most)
+    is_right = made.startswith(least) and most.startswith(made)
+    require(is_right, "after a signal the file has %d bytes, and not %d to %d" % sizes)
 
 
 def check_closed(it, ran, wanted):
@@ -373,14 +330,9 @@ def check_closed(it, ran, wanted):
     answers are lost."""
     closed = it.talk.closed
     errors = b"" if 2 in closed else UNREAD if 0 in closed else wanted.errors
-    output = b"" if 0 in closed or 1 in closed else wanted.whole()
-    require_parts(
-        ran,
-        1 if 0 in closed or 1 in closed else wanted.status,
-        output,
-        errors,
-        None if 0 in closed else wanted.made,
-    )
+    is_lost = 0 in closed or 1 in closed
+    status, output = (1, b"") if is_lost else (wanted.status, wanted.whole())
+    require_parts(ran, status, output, errors, None if 0 in closed else wanted.made)
 
 
 def check_session(room, it):
@@ -397,8 +349,7 @@ def check_session(room, it):
         front = Wanted(room, it, it.talk.lines(it.talk.at))
         require_parts(ran, 1, front.whole()[: -len(front.end)], UNREAD, front.pages() or None)
     else:
-        require(
-            wanted.whole().startswith(ran.output), "a reader that left heard %r", ran.output[-200:]
-        )
+        is_right = wanted.whole().startswith(ran.output)
+        require(is_right, f"a reader that left heard {ran.output[-200:]!r}")
         require_parts(ran, 1, ran.output, wanted.errors, wanted.made)
     return ran, wanted.came()
