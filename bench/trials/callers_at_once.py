@@ -12,33 +12,25 @@ out."""
 import argparse
 import os
 import shutil
-import subprocess
 import sys
 import tempfile
 import time
 
-HERE = os.path.dirname(os.path.abspath(__file__))
-ROOT = os.path.dirname(os.path.dirname(HERE))
-sys.path[:0] = [ROOT + "/tests"]
-from common.library_build import build_shared, compile_c  # noqa: E402 (after the path)
-from models.plain_font import metric_file  # noqa: E402
+from trial import HERE, ROOT
+from common.files import content, write
+from common.library_build import compile_c, python_words
+from common.running import finished
+from models.plain_font import metric_file
 
 LIMIT = 1800
 C_WAYS = ("threads", "passed", "forks", "killed", "exits")
 PYTHON_WAYS = ("threads", "pools", "parts", "ends", "interrupts", "copies", "views")
 SCRIPT = "page_of_text.box"
 # A page of boxes as deep as they may be.
-DEEP = "hbox into 1\nrule 1pt 1pt 0pt\nend\n" + "hbox into 1\nbox 1\nend\n" * 199 + "ship 1\n"
+DEEP = b"hbox into 1\nrule 1pt 1pt 0pt\nend\n" + b"hbox into 1\nbox 1\nend\n" * 199 + b"ship 1\n"
 BUILDS = {"plain": [], "address": ["-fsanitize=address,undefined"], "thread": ["-fsanitize=thread"]}
-VALGRIND = {
-    "memcheck": [
-        "--leak-check=full",
-        "--errors-for-leak-kinds=definite",
-        "--show-leak-kinds=definite",
-    ],
-    "helgrind": [],
-    "drd": [],
-}
+LEAK_KINDS = "--leak-check=full --errors-for-leak-kinds=definite --show-leak-kinds=definite"
+VALGRIND = {"memcheck": LEAK_KINDS.split(), "helgrind": [], "drd": []}
 # Where a process ends inside calls, what they took is not freed.
 LEAKS = {"exits": ["--leak-check=no"], "killed": ["--leak-check=no"]}
 
@@ -47,9 +39,8 @@ def build(archive, folder, name):
     """Builds the caller, and returns its path."""
     out = f"{folder}/caller_{name}"
     flags = ["-D_GNU_SOURCE", "-pthread", *BUILDS[name], f"-I{ROOT}/bindings/c"]
-    wrong = compile_c(
-        ROOT, archive, [f"{HERE}/callers_at_once.c", f"{ROOT}/bindings/c/inputs.c"], out, flags
-    )
+    sources = [f"{HERE}/callers_at_once.c", f"{ROOT}/bindings/c/inputs.c"]
+    wrong = compile_c(ROOT, archive, sources, out, flags)
     if wrong:
         sys.exit(f"the caller is not built: {wrong}")
     return out
@@ -72,14 +63,11 @@ def commands(archive, folder, way):
 def run(name, words, env, folder):
     """Runs a command. Returns whether it was well."""
     start = time.monotonic()
-    ran = subprocess.run(
-        words, cwd=folder, env=env, stdin=subprocess.DEVNULL, capture_output=True, timeout=LIMIT
-    )
+    ran = finished(words, cwd=folder, env=env, timeout=LIMIT)
     is_well = ran.returncode == 0 and not ran.stderr
-    print(
-        f"{name}: {'well' if is_well else f'status {ran.returncode}'}, {time.monotonic() - start:.0f} s, {ran.stdout.decode(errors='replace').strip().replace(chr(10), '; ')}",
-        flush=True,
-    )
+    said = "; ".join(ran.stdout.decode(errors="replace").strip().split("\n"))
+    came = "well" if is_well else f"status {ran.returncode}"
+    print(f"{name}: {came}, {time.monotonic() - start:.0f} s, {said}", flush=True)
     if not is_well:
         print(ran.stderr.decode(errors="replace")[-3000:], flush=True)
     return is_well
@@ -99,34 +87,25 @@ def main():
     ways = [*(f"c:{it}" for it in C_WAYS), *(f"python:{it}" for it in PYTHON_WAYS)]
     layout = argparse.RawDescriptionHelpFormatter
     parser = argparse.ArgumentParser(description=__doc__, formatter_class=layout)
-    parser.add_argument("--archive", required=True)
+    parser.add_argument("--archive", required=True, type=os.path.abspath)
     parser.add_argument("--workers", type=int, default=8, help="how many threads or processes (8)")
     often = "how often each makes all calls (200)"
     parser.add_argument("--rounds", type=int, default=200, help=often)
     parser.add_argument("ways", nargs="*", metavar="WAY", help=", ".join(ways))
-    words = parser.parse_args()
-    for way in words.ways:
-        if way not in ways:
-            parser.error(f"there is no way {way}")
-    archive, wells = os.path.abspath(words.archive), []
+    words, wells = parser.parse_args(), []
+    for way in {*words.ways} - {*ways}:
+        parser.error(f"there is no way {way}")
     with tempfile.TemporaryDirectory(prefix="boxglue-callers-") as folder:
-        with open(f"{ROOT}/examples/{SCRIPT}", encoding="ascii") as it:
-            script = it.read() + DEEP
-        for name, data in (("script", script.encode()), ("plain.tfm", metric_file())):
-            with open(f"{folder}/{name}", "wb") as it:
-                it.write(data)
-        env = {
-            **os.environ,
-            "BOXGLUE_LIBRARY": build_shared(ROOT, archive),
-            "PYTHONPATH": f"{ROOT}/bindings/python",
-            "PYTHONDONTWRITEBYTECODE": "1",
-        }
+        write(f"{folder}/script", content(f"{ROOT}/examples/{SCRIPT}") + DEEP)
+        write(f"{folder}/plain.tfm", metric_file())
+        sizes = [str(words.workers), str(words.rounds), "script", "plain.tfm"]
         for language, _, way in (it.partition(":") for it in words.ways or ways):
             if language == "c":
-                wells.append(runs_in_c(archive, folder, way, words.workers, words.rounds))
+                wells.append(runs_in_c(words.archive, folder, way, words.workers, words.rounds))
             else:
-                sizes = [str(words.workers), str(words.rounds), "script", "plain.tfm"]
-                command = [sys.executable, f"{HERE}/python_at_once.py", way, *sizes]
+                program = f"{HERE}/python_at_once.py"
+                command, env = python_words(ROOT, words.archive, [program, way, *sizes])
+                env["PYTHONPATH"] += f":{ROOT}/tests"
                 wells.append(run(f"{way} in Python", command, env, folder))
     print("all were well" if all(wells) else "some went wrong")
     sys.exit(not all(wells))

@@ -4,33 +4,39 @@ WORKERS ROUNDS SCRIPT TFM, as callers_at_once.py runs it.
 
   threads    threads run all calls, and the lines of one job that they share
   pools      pools by fork, spawn and forkserver: results, and refusals that are raised, come back
-  as they are here
+             as they are here
   parts      a process with a job that is half done forks; it and its children make the other half
   ends       children end inside calls: os._exit, sys.exit, SIGKILL, a daemon thread inside a call
-  at the end; the next pool works interrupts an exception comes at any moment of calls on a job: no
-  byte of its file is lost or comes twice
+             at the end; the next pool works
+  interrupts an exception comes at any moment of calls on a job: no byte of its file is lost or
+             comes twice
   copies     pickles of all protocols, copies and deep copies of what calls give; a job refuses all
-  of them
+             of them
   views      tables as memoryviews, after all that they came from is dropped
 
 All that comes is compared with what one thread got before."""
 
 import concurrent.futures
 import copy
+import functools
 import gc
+import itertools
 import multiprocessing
 import os
 import pickle
 import random
 import signal
-import subprocess
 import sys
 import time
 
+from common.files import content
+from common.outcome import require
+from common.running import finished
 import boxglue
 
 LINES, COPIED = 5, 20
 BAD = "hbox into 0\nrule 1pt 1pt 0pt\nend\nship 7\n"
+REFUSED = "line 4: refused 21 VoidBox: 'ship 7'"
 MAKES = (
     "import os, sys, threading, time, boxglue\nscript, fonts = open(sys.argv[1]).read(), {'cmr10': open(sys.argv[2], 'rb').read()}\n"
     "inside = threading.Event()\ndef calls():\n    while True:\n        job = boxglue.Job(fonts)\n        inside.set()\n        job.commands(script)\n        job.finish()\n        job.take()\n"
@@ -45,19 +51,11 @@ ENDS = {
 }
 
 
-def require(holds, why):
-    if not holds:
-        raise AssertionError(why)
-
-
 class Given:
     """A script and its fonts, and what one thread got of them."""
 
     def __init__(self, script, metrics):
-        with open(script, encoding="ascii") as it:
-            self.script = it.read()
-        with open(metrics, "rb") as it:
-            self.fonts = {"cmr10": it.read()}
+        self.script, self.fonts = content(script).decode("ascii"), {"cmr10": content(metrics)}
         lines = self.script.splitlines(keepends=True)
         self.pieces = ["".join(lines[at : at + LINES]) for at in range(0, len(lines), LINES)]
         self.wanted = all_calls(self.script, self.fonts)
@@ -104,9 +102,8 @@ def in_threads(count, call):
 def threads(given, workers, rounds):
     def calls():
         for _ in range(rounds):
-            require(
-                all_calls(given.script, given.fonts) == given.wanted, "a thread got something else"
-            )
+            found = all_calls(given.script, given.fonts)
+            require(found == given.wanted, "a thread got something else")
             require(run_job(given) == given.dvi, "a job of a thread made another file")
 
     in_threads(workers, calls)
@@ -121,10 +118,9 @@ def threads(given, workers, rounds):
 
         in_threads(workers, share)
         found = job.commands("measure 0\n").replies[0]
-    require(
-        found.line == workers * rounds * 5 + 1 and found.width == 65536 and not b"".join(taken),
-        "the lines of a shared job are counted as %r" % found,
-    )
+    counted = found.line, found.width, b"".join(taken)
+    wanted = workers * rounds * 5 + 1, 65536, b""
+    require(counted == wanted, f"the lines of a shared job are counted as {found!r}")
 
 
 def worked(words):
@@ -135,22 +131,19 @@ def worked(words):
     return number, all_calls(script, fonts)
 
 
+def pool_of(workers, method):
+    context = multiprocessing.get_context(method)
+    return concurrent.futures.ProcessPoolExecutor(workers, context)
+
+
 def pools(given, workers, rounds):
     for method in ("fork", "spawn", "forkserver"):
-        with concurrent.futures.ProcessPoolExecutor(
-            workers, multiprocessing.get_context(method)
-        ) as pool:
-            asked = [
-                pool.submit(worked, (number, given.script, given.fonts)) for number in range(rounds)
-            ]
-            for number, it in enumerate(asked):
-                refusal = it.exception()
-                require(
-                    (str(refusal) == "line 4: refused 21 VoidBox")
-                    if number % 7 == 3
-                    else it.result() == (number, given.wanted),
-                    "%s: result %d is another" % (method, number),
-                )
+        with pool_of(workers, method) as pool:
+            words = [(number, given.script, given.fonts) for number in range(rounds)]
+            for number, it in enumerate([pool.submit(worked, its) for its in words]):
+                is_refused = str(it.exception()) == REFUSED
+                is_right = is_refused if number % 7 == 3 else it.result() == (number, given.wanted)
+                require(is_right, f"{method}: result {number} is another")
 
 
 def waited(child):
@@ -162,20 +155,16 @@ def parts(given, workers, rounds):
     half = len(given.pieces) // 2
     for _ in range(max(rounds // 10, 1)):
         with boxglue.Job(given.fonts) as job:
-            first = b""
+            first, children = b"", []
             for piece in given.pieces[:half]:
                 job.commands(piece)
                 first += job.take()
-            children = []
             for _ in range(workers):
-                child = os.fork()
-                if not child:
-                    os._exit(0 if first + rest_of(job, given.pieces[half:]) == given.dvi else 1)
-                children.append(child)
-            require(
-                first + rest_of(job, given.pieces[half:]) == given.dvi,
-                "the parent made another file",
-            )
+                children.append(os.fork())
+                if not children[-1]:
+                    os._exit(first + rest_of(job, given.pieces[half:]) != given.dvi)
+            made = first + rest_of(job, given.pieces[half:])
+            require(made == given.dvi, "the parent made another file")
             require(not any(map(waited, children)), "a child made another file")
 
 
@@ -187,40 +176,35 @@ def stay(given, moment):
         run_job(given)
 
 
+def broken_pool(given, workers, method):
+    """A pool one of whose workers is ended, and the next one."""
+    words = 0, given.script, given.fonts
+    with pool_of(workers, method) as pool:
+        asked = [pool.submit(worked, words) for _ in range(50)]
+        while not getattr(pool, "_processes", None):
+            time.sleep(0.001)
+        os.kill(next(iter(pool._processes)), signal.SIGKILL)
+        failed = {type(it.exception()).__name__ for it in asked} - {"NoneType"}
+        is_right = failed <= {"BrokenProcessPool"}
+        require(is_right, f"a pool whose worker was ended raised {failed!r}")
+    with pool_of(workers, method) as pool:
+        found = pool.submit(worked, words).result()
+    require(found == (0, given.wanted), "the next pool gave something else")
+
+
 def ends(given, workers, rounds):
     chance = random.Random(1)
-    for round_ in range(rounds):
-        name = [*ENDS][round_ % len(ENDS)]
-        code, status = ENDS[name]
+    for _, (name, (code, status)) in zip(range(rounds), itertools.cycle(ENDS.items())):
         words = [sys.executable, "-c", MAKES + code, *sys.argv[4:6], str(chance.random() / 50)]
-        ran = subprocess.run(words, capture_output=True, timeout=60)
-        require(
-            ran.returncode == status and (name == "an exception" or not ran.stderr),
-            "%s: status %d, %r" % (name, ran.returncode, ran.stderr[-500:]),
-        )
+        ran = finished(words, timeout=60)
+        is_right = ran.returncode == status and (name == "an exception" or not ran.stderr)
+        require(is_right, f"{name}: status {ran.returncode}, {ran.stderr[-500:]!r}")
         child = os.fork()
         if not child:
             stay(given, 0.0001 + chance.random() / 50)
         require(waited(child) == 5, "a child that a handler ended")
     for method in ("fork", "spawn"):
-        with concurrent.futures.ProcessPoolExecutor(
-            workers, multiprocessing.get_context(method)
-        ) as pool:
-            asked = [pool.submit(worked, (0, given.script, given.fonts)) for _ in range(50)]
-            while not getattr(pool, "_processes", None):
-                time.sleep(0.001)
-            os.kill(next(iter(pool._processes)), signal.SIGKILL)
-            failed = {type(it.exception()).__name__ for it in asked} - {"NoneType"}
-            require(
-                failed <= {"BrokenProcessPool"}, "a pool whose worker was ended raised %r" % failed
-            )
-        with concurrent.futures.ProcessPoolExecutor(
-            workers, multiprocessing.get_context(method)
-        ) as pool:
-            require(
-                pool.submit(worked, (0, given.script, given.fonts)).result() == (0, given.wanted),
-                "the next pool gave something else",
-            )
+        broken_pool(given, workers, method)
 
 
 class Interrupt(Exception):
@@ -268,19 +252,16 @@ def interrupts(given, _workers, rounds):
             while not alarm.interrupt(lambda: taken.append(job.take())):
                 pass
             taken.append(job.take())
-        require(
-            b"".join(taken) == given.dvi,
-            "of the file %d bytes were taken, and not %d" % (len(b"".join(taken)), len(given.dvi)),
-        )
-    print("%d exceptions came" % alarm.came)
+        made = b"".join(taken)
+        said = f"of the file {len(made)} bytes were taken, and not {len(given.dvi)}"
+        require(made == given.dvi, said)
+    print(f"{alarm.came} exceptions came")
 
 
 def equal_copies(one):
     """All copies of an object."""
-    yield from (
-        pickle.loads(pickle.dumps(one, protocol))
-        for protocol in range(2, pickle.HIGHEST_PROTOCOL + 1)
-    )
+    for protocol in range(2, pickle.HIGHEST_PROTOCOL + 1):
+        yield pickle.loads(pickle.dumps(one, protocol))
     yield from (copy.copy(one), copy.deepcopy(one))
 
 
@@ -305,13 +286,12 @@ def is_copy(one, other):
 
 def copies(given, _workers, rounds):
     things = [*things_of(given)]
-    for _ in range(max(rounds // 50, 1)):
-        for one in things:
-            for other in equal_copies(one):
-                require(is_copy(one, other), "%r has another copy" % (one,))
+    for one in things * max(rounds // 50, 1):
+        for other in equal_copies(one):
+            require(is_copy(one, other), f"{one!r} has another copy")
     job = boxglue.Job(given.fonts)
     protocols = range(pickle.HIGHEST_PROTOCOL + 1)
-    by_pickle = [lambda it, protocol=protocol: pickle.dumps(it, protocol) for protocol in protocols]
+    by_pickle = [functools.partial(pickle.dumps, protocol=it) for it in protocols]
     for way in (copy.copy, copy.deepcopy, *by_pickle):
         try:
             way(job)
@@ -322,31 +302,23 @@ def copies(given, _workers, rounds):
     require(is_same, "a job that refused to be copied made another file")
 
 
+def tables(ran, document):
+    """Views of tables of marks and of replies."""
+    return document.marks.rows, document.pages[0].marks[1:].rows, ran.replies[3:9].rows
+
+
 def views(given, workers, rounds):
+    ran, _, document, *_ = given.wanted
+    wanted, mark = [bytes(it) for it in tables(ran, document)], document.marks[0]
+
     def calls():
         for _ in range(rounds):
             document = boxglue.marks(given.dvi, given.fonts)
-            rows, some, one = (
-                document.marks.rows,
-                document.pages[0].marks[1:].rows,
-                document.marks[0],
-            )
-            replies = boxglue.run(given.script, given.fonts).replies[3:9].rows
+            found, one = tables(boxglue.run(given.script, given.fonts), document), document.marks[0]
             del document
             gc.collect(0)
-            require(
-                bytes(rows) == bytes(given.wanted[2].marks.rows)
-                and one == given.wanted[2].marks[0],
-                "a view is another",
-            )
-            require(
-                bytes(some) == bytes(given.wanted[2].pages[0].marks[1:].rows),
-                "a view of a part is another",
-            )
-            require(
-                bytes(replies) == bytes(given.wanted[0].replies[3:9].rows),
-                "a view of replies is another",
-            )
+            is_right = [bytes(it) for it in found] == wanted and one == mark
+            require(is_right, "a view is another")
 
     in_threads(workers, calls)
 
@@ -357,10 +329,8 @@ WAYS = {it.__name__: it for it in (threads, pools, parts, ends, interrupts, copi
 def main():
     way, workers, rounds, script, metrics = sys.argv[1:]
     WAYS[way](Given(script, metrics), int(workers), int(rounds))
-    print(
-        "%s: %s workers, %s rounds, %d bytes of a file"
-        % (way, workers, rounds, len(Given(script, metrics).dvi))
-    )
+    size = len(Given(script, metrics).dvi)
+    print(f"{way}: {workers} workers, {rounds} rounds, {size} bytes of a file")
 
 
 if __name__ == "__main__":

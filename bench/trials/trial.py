@@ -6,7 +6,8 @@ import os
 import sys
 import tempfile
 
-ROOT = os.path.dirname(os.path.dirname(os.path.dirname(os.path.abspath(__file__))))
+HERE = os.path.dirname(os.path.abspath(__file__))
+ROOT = os.path.dirname(os.path.dirname(HERE))
 sys.path[:0] = [ROOT + "/tests", ROOT + "/bench"]
 BUILT = os.environ.get("BOXGLUE", ROOT + "/crates/boxglue/out/boxglue")
 
