@@ -10,7 +10,6 @@ Debian's packages texlive-base, texlive-latex-base, dvipng, ghostscript and popp
 texlive-fonts-recommended, texlive-latex-recommended, texlive-pictures and texlive-extra-utils it
 has more metric files and documents. docs/internal/EVIDENCE.md has the results."""
 
-import argparse
 import glob
 import os
 import re
@@ -20,20 +19,16 @@ import tempfile
 import time
 from collections import Counter
 
-HERE = os.path.dirname(os.path.abspath(__file__))
-sys.path.insert(1, os.path.dirname(HERE))
-import inputs  # noqa: E402 (after the path)
-from outside_documents import DOCUMENTS  # noqa: E402
-from outside_files import black_pixels, drawn, dvipng_rules, fonts, large, other_fonts  # noqa: E402
-from outside_files import painted, random_files, sheets  # noqa: E402
-from outside_fonts import TREES, damaged, metrics  # noqa: E402
-from outside_pages import Tally, black, by_dvitype  # noqa: E402
-from outside_random import boxes, long_paragraphs, long_script, pages, paragraphs  # noqa: E402
-from outside_random import splits  # noqa: E402
-from outside_ways import SessionWork  # noqa: E402
-from outside_work import Work  # noqa: E402
-
-EXAMPLES = os.path.join(HERE, "../../examples")
+from trial import ROOT, parser_of
+from common.files import read
+from outside_documents import DOCUMENTS
+from outside_files import fonts, large, other_fonts, paint, random_files, sheets
+from outside_fonts import damaged, live_files, metrics
+from outside_pages import Tally, by_dvitype
+from outside_random import boxes, long_paragraphs, long_script, pages, paragraphs, splits
+from outside_ways import SessionWork
+from outside_work import Work
+import inputs
 
 
 # Files of TeX.
@@ -48,21 +43,19 @@ def made_documents(work):
         # folder too.
         for _ in range(2 if "\\tableofcontents" in text or "\\ref" in text else 1):
             work.tex("document_" + name, text, program)
-        if os.path.exists(work.path("document_%s.dvi" % name)):
-            made.append("document_%s.dvi" % name)
-        else:
-            missing.append(name)
-    for path in {
-        os.path.realpath(path)
-        for tree in TREES
-        for path in glob.glob(tree + "/**/*.dvi", recursive=True)
-    }:
-        shutil.copy(path, work.path("live_" + os.path.basename(path)))
+        is_made = os.path.exists(work.path("document_%s.dvi" % name))
+        (made if is_made else missing).append("document_%s.dvi" % name if is_made else name)
+    for path in live_files("*.dvi"):
         made.append("live_" + os.path.basename(path))
+        shutil.copy(path, work.path(made[-1]))
     for name in list(made):
         work.run("dvicopy", name, "copy_" + name)
-        made += ["copy_" + name] if os.path.exists(work.path("copy_" + name)) else []
+        made += ["copy_" + name] * os.path.exists(work.path("copy_" + name))
     return made, missing
+
+
+NOT_MADE = "documents that are not made here: "
+NO_METRICS = "files with fonts whose metric files are not here: "
 
 
 def documents(work):
@@ -72,31 +65,26 @@ def documents(work):
     tally, notes, without_metrics, defined = Tally(), [], [], 0
     for name in made:
         theirs = by_dvitype(name, work.folder)
-        fonts = work.fonts(sorted({font for font, _ in theirs.fonts.values()}))
-        if len(fonts) < len({font for font, _ in theirs.fonts.values()}):
+        names = {font for font, _ in theirs.fonts.values()}
+        fonts = work.fonts(sorted(names))
+        if len(fonts) < len(names):
             without_metrics.append(name)
             continue
         notes += ["%s: dvitype: %s" % (name, it) for it in theirs.complaints]
         ours = work.listing(name, fonts)
         if ours.pages is None:
             notes.append("%s: %s" % (name, ours.complaints[0]))
-        else:
-            tally.pages(name, ours.pages, theirs.pages)
-            notes, defined = notes + other_fonts(work, name, theirs, fonts), defined + len(
-                theirs.fonts
-            )
-    line = (
-        "documents: %d files with %d fonts, not accepted, warned of, or with other units or fonts %d; %s"
-        % (len(made) - len(without_metrics), defined, len(notes), tally.shown())
+            continue
+        tally.pages(name, ours.pages, theirs.pages)
+        notes += other_fonts(work, name, theirs, fonts)
+        defined += len(theirs.fonts)
+    form = (
+        "documents: %d files with %d fonts, not accepted, warned of, or with other units or fonts "
     )
-    causes = Counter(
-        {
-            "documents that are not made here: " + ", ".join(missing): len(missing),
-            "files with fonts whose metric files are not here: "
-            + ", ".join(without_metrics): len(without_metrics),
-        }
-    )
-    work.show(line, +causes, notes + tally.notes)
+    counts = len(made) - len(without_metrics), defined, len(notes), tally.shown()
+    causes = Counter({NOT_MADE + ", ".join(missing): len(missing)})
+    causes[NO_METRICS + ", ".join(without_metrics)] = len(without_metrics)
+    work.show((form + "%d; %s") % counts, +causes, notes + tally.notes)
 
 
 # Other readers.
@@ -104,11 +92,9 @@ def documents(work):
 
 def example_scripts():
     """The scripts of examples/, all in a font that has shapes, and a book of 280 pages."""
-    for path in sorted(glob.glob(EXAMPLES + "/*.box")):
-        with open(path) as file:
-            yield os.path.basename(path)[:-4], re.sub(
-                r"(?m)^(font .*)plain", r"\1cmr10", file.read()
-            )
+    for path in sorted(glob.glob(ROOT + "/examples/*.box")):
+        script = re.sub(r"(?m)^(font .*)plain", r"\1cmr10", read(path))
+        yield os.path.basename(path)[:-4], script
     yield "book", inputs.book(200)[0]
 
 
@@ -118,6 +104,15 @@ def said_by(words, text):
         return [text] if text.strip() else []
     bad = r"(?i)(?:%s)?[^\n]*(?:warning|error|missing|cannot|can't|unimplemented)[^\n]*"
     return re.findall(bad % words[0], text)
+
+
+READERS = (
+    "dvips -o FILE.ps FILE.dvi",
+    "gs -q -dBATCH -dNOPAUSE -sDEVICE=nullpage FILE.ps",
+    "dvipdfmx -o FILE.pdf FILE.dvi",
+    "pdftoppm -r 30 -gray FILE.pdf FILE",
+    "dvipng -D 110 -T tight -o FILE-%d.png FILE.dvi",
+)
 
 
 def readers(work):
@@ -130,20 +125,12 @@ def readers(work):
         count = sum(answer.startswith("shipped") for answer in answers.values())
         os.replace(work.path(file + ".ours.dvi"), work.path(file + ".dvi"))
         total += count
-        read = by_dvitype(file + ".dvi", work.folder)
+        found = by_dvitype(file + ".dvi", work.folder)
         runs["dvitype"] += 1
-        notes += [
-            "%s: dvitype: %s" % (name, it)
-            for it in read.complaints
-            + (["%d pages" % len(read.pages)] if len(read.pages) != count else [])
-        ]
-        for words in (
-            ["dvips", "-o", file + ".ps", file + ".dvi"],
-            ["gs", "-q", "-dBATCH", "-dNOPAUSE", "-sDEVICE=nullpage", file + ".ps"],
-            ["dvipdfmx", "-o", file + ".pdf", file + ".dvi"],
-            ["pdftoppm", "-r", "30", "-gray", file + ".pdf", file],
-            [*"dvipng -D 110 -T tight -o".split(), file + "-%d.png", file + ".dvi"],
-        ):
+        wrong = found.complaints + ["%d pages" % len(found.pages)] * (len(found.pages) != count)
+        notes += ["%s: dvitype: %s" % (name, it) for it in wrong]
+        for words in READERS:
+            words = [it.replace("FILE", file) for it in words.split()]
             status, text = work.run(*words)
             runs[words[0]] += 1
             said = said_by(words, text)
@@ -152,46 +139,12 @@ def readers(work):
             elif status or said:
                 notes.append("%s: %s: status %d, %s" % (name, words[0], status, " / ".join(said)))
         for made, pattern in (("dvipng", file + "-*.png"), ("pdftoppm", file + "-*.pgm")):
-            found = len(glob.glob(work.path(pattern)))
-            if found != count:
-                notes.append("%s: %s made %d of %d pages" % (name, made, found, count))
-    line = "readers: %s; %d pages; warnings, errors or other numbers of pages: %d" % (
-        ", ".join("%s of %d files" % it for it in runs.items()),
-        total,
-        len(notes),
-    )
-    work.show(line, causes, notes)
-
-
-DOTS = (72, 100, 144, 150, 300, 600)
-
-
-def paint(work):
-    """A page of 1,600 rules, by `paint` and by dvipng."""
-    work.typeset("paint", inputs.many_rules(1600), [])
-    parts, notes = [], []
-    for dots in DOTS:
-        side = 7 * dots
-        ours = work.bitmap("paint.ours.dvi", 1, dots, side)
-        work.run(
-            "dvipng", "-q", "-D", str(dots), "-T", "7in,7in", "-o", "paint.png", "paint.ours.dvi"
-        )
-        width, theirs = black(work.path("paint.png"))
-        if (width, len(theirs)) != (side, side):
-            notes.append("%d dpi: dvipng's page is %d by %d" % (dots, width, len(theirs)))
-            continue
-        # What FORMATS.md says of the pixels, from the places that dvitype says.
-        by_formula = painted(by_dvitype("paint.ours.dvi", work.folder).pages[0].marks, dots, side)
-        if by_formula != ours:
-            notes.append("%d dpi: not what FORMATS.md says" % dots)
-        if drawn(dvipng_rules("paint.ours.dvi", work.folder, dots)[0], side) != theirs:
-            notes.append("%d dpi: dvipng rounds otherwise" % dots)
-        differ = black_pixels(map(int.__xor__, ours, theirs))
-        parts.append(
-            "%d of %d at %d dpi (black %d and %d)"
-            % (differ, side * side, dots, black_pixels(ours), black_pixels(theirs))
-        )
-    work.show("paint: 1600 rules, pixels that differ from dvipng's: " + ", ".join(parts), {}, notes)
+            painted = len(glob.glob(work.path(pattern)))
+            if painted != count:
+                notes.append("%s: %s made %d of %d pages" % (name, made, painted, count))
+    shown = ", ".join("%s of %d files" % it for it in runs.items())
+    form = "readers: %s; %d pages; warnings, errors or other numbers of pages: %d"
+    work.show(form % (shown, total, len(notes)), causes, notes)
 
 
 # Each part with the tools that it needs.
@@ -216,10 +169,7 @@ PARTS = {
 
 def words_of():
     """Reads the command line."""
-    layout = argparse.RawDescriptionHelpFormatter
-    parser = argparse.ArgumentParser(description=__doc__, formatter_class=layout)
-    built = os.path.join(HERE, "../../crates/boxglue/out/boxglue")
-    parser.add_argument("--boxglue", default=os.environ.get("BOXGLUE", built))
+    parser = parser_of(__doc__)
     ways = {"choices": ("program", "session"), "default": "program", "metavar": "WAY"}
     number = {"type": int, "metavar": "N"}
     for name, how, about in (
@@ -240,8 +190,7 @@ def words_of():
 
 
 def main():
-    words = words_of()
-    left_out = 0
+    words, left_out = words_of(), 0
     with tempfile.TemporaryDirectory() as room:
         folder = os.path.abspath(words.folder or room)
         os.makedirs(folder, exist_ok=True)

@@ -11,9 +11,12 @@ from itertools import islice
 from math import ceil
 
 import inputs
+from common.files import content
+from common.running import finished
 from generator import FILE_SEEDS, SHEET_SEEDS, Chance, dimension, framed
-from hostile_inputs import TINY
-from outside_pages import DOWN, RIGHT, RULE, STEP, Tally, black, by_dvitype
+from models.large_inputs import TINY
+from outside_pages import BY_DVITYPE, DOWN, RIGHT, RULE, Tally, black, by_dvitype, steps_of
+from outside_pages import text_of_dvitype
 
 
 # Units and fonts.
@@ -23,15 +26,9 @@ from outside_pages import DOWN, RIGHT, RULE, STEP, Tally, black, by_dvitype
 def header(path):
     """Design size in scaled points, rounded down, and check sum of a metric file, as tftopl says
     them."""
-    text = subprocess.run(
-        ["tftopl", path],
-        stdin=subprocess.DEVNULL,
-        stdout=subprocess.PIPE,
-        stderr=subprocess.DEVNULL,
-    ).stdout.decode("latin-1")
-    size, check_sum = re.search(r"\(DESIGNSIZE R ([\d.]+)\)", text), re.search(
-        r"\(CHECKSUM O (\d+)\)", text
-    )
+    text = finished(["tftopl", path]).stdout.decode("latin-1")
+    size = re.search(r"\(DESIGNSIZE R ([\d.]+)\)", text)
+    check_sum = re.search(r"\(CHECKSUM O (\d+)\)", text)
     # The text has as many digits as the number of 32 bits needs.
     return round(Fraction(size[1]) * 2**20) // 16, int(check_sum[1], 8)
 
@@ -39,24 +36,20 @@ def header(path):
 def other_fonts(work, name, theirs, fonts):
     """What `boxglue fonts` says of a file otherwise than dvitype and tftopl; the fonts are words
     NAME=TFM."""
-    paths = {font: work.path(path) for font, _, path in (word.partition("=") for word in fonts)}
+    paths = dict(word.split("=", 1) for word in fonts)
     expected = [
-        (number, font, size, *header(paths[font])) for number, (font, size) in theirs.fonts.items()
+        (number, font, size, *header(work.path(paths[font])))
+        for number, (font, size) in theirs.fonts.items()
     ]
-    found = dict(zip(("units", "fonts"), work.units_and_fonts(name, fonts)))
-    return [
-        "%s: %s %s and %s" % (name, what, found[what], said)
-        for what, said in (("units", theirs.units), ("fonts", expected))
-        if found[what] != said
-    ]
+    pairs = zip(("units", "fonts"), work.units_and_fonts(name), (theirs.units, expected))
+    return ["%s: %s %s and %s" % (name, *it) for it in pairs if it[1] != it[2]]
 
 
 def fonts(work):
     """Pages in two of 256 fonts each: what tex makes of them, and units and fonts of both files."""
     names = [inputs.font_name(number) for number in range(256)]
     for number, name in enumerate(names):
-        with open(work.path(name + ".tfm"), "wb") as file:
-            file.write(inputs.small_metric_file(number))
+        work.put(name + ".tfm", inputs.small_metric_file(number))
     box, tex = inputs.pages_of_fonts(600, len(names))
     words = ["%s=%s.tfm" % (name, name) for name in names]
     # Plain TeX begins with page 1.
@@ -69,11 +62,10 @@ def fonts(work):
     notes = ["fonts: dvitype: %s" % it for it in ours.complaints]
     for name, reading in (("fonts.ours.dvi", ours), ("fonts.dvi", theirs)):
         notes += other_fonts(work, name, reading, words)
-    line = (
-        "fonts: %d and %d fonts; TeX's pages: %s; `list` beside dvitype: %s; other units or fonts, and complaints: %d"
-        % (len(ours.fonts), len(theirs.fonts), tally.shown(), listed.shown(), len(notes))
-    )
-    work.show(line, {}, notes + tally.notes + listed.notes)
+    counts = len(ours.fonts), len(theirs.fonts), tally.shown(), listed.shown(), len(notes)
+    form = "fonts: %d and %d fonts; TeX's pages: %s; `list` beside dvitype: %s; "
+    form += "other units or fonts, and complaints: %d"
+    work.show(form % counts, {}, notes + tally.notes + listed.notes)
 
 
 # Bitmaps.
@@ -102,35 +94,19 @@ def pixel(dots):
 
 def painted(rules, dots, side):
     """The rows of a page of rules in scaled points by the formula of docs/FORMATS.md."""
-    unit = pixel(dots)
-    return drawn(
-        (
-            (
-                nearest(it.h / unit),
-                nearest(it.v / unit),
-                ceil(it.what[0] / unit),
-                ceil(it.what[1] / unit),
-            )
-            for it in rules
-        ),
-        side,
-    )
+    unit, found = pixel(dots), []
+    for it in rules:
+        high, wide = (ceil(size / unit) for size in it.what)
+        found.append((nearest(it.h / unit), nearest(it.v / unit), high, wide))
+    return drawn(found, side)
 
 
 def dvipng_rules(path, folder, dots):
     """The rules of each page in pixels, from the steps that dvitype says, as dvipng rounds: a pixel
     is four times a whole number of scaled points, and a rule in a line moves by its own width in
     pixels."""
-    text = subprocess.run(
-        ["dvitype", "-output-level=4", path],
-        cwd=folder,
-        stdin=subprocess.DEVNULL,
-        stdout=subprocess.PIPE,
-    ).stdout.decode("latin-1")
     unit, pages, saved = 4 * nearest(pixel(dots) / 4), [], []
-    for line in text.split("\n"):
-        step = STEP.match(line)
-        name, rest = (step[1], step[3]) if step else (None, "")
+    for _, name, _, rest in steps_of(text_of_dvitype(path, folder)[0]):
         right, down = RIGHT.search(rest), DOWN.search(rest)
         if name == "beginning":
             column = row = 0
@@ -141,11 +117,9 @@ def dvipng_rules(path, folder, dots):
             column, row = saved.pop()
         elif name in ("setrule", "putrule"):
             high, wide = map(int, RULE.match(rest).groups())
-            pages[-1] += (
-                [(column, row, ceil(Fraction(high, unit)), ceil(Fraction(wide, unit)))]
-                if min(high, wide) > 0
-                else []
-            )
+            if min(high, wide) > 0:
+                sizes = (ceil(Fraction(it, unit)) for it in (high, wide))
+                pages[-1].append((column, row, *sizes))
             column += nearest(Fraction(wide, unit)) if name == "setrule" else 0
         elif right:
             column = nearest(Fraction(int(right[2]), unit))
@@ -158,24 +132,35 @@ def black_pixels(rows):
     return sum(bin(row).count("1") for row in rows)
 
 
+def by_dvipng(work, name, dots, out):
+    """Has dvipng paint the pages of a file, each 7 inches wide and high."""
+    return work.run("dvipng", "-q", "-D", str(dots), "-T", "7in,7in", "-o", out, name)
+
+
+def compare_page(work, name, number, page, rules, dots):
+    """Compares the bitmap of a page with dvipng's, which is there, with its rules in pixels as
+    dvipng rounds, and with its marks. Returns how many pixels of the three differ, and are black,
+    and what is not as it has to be."""
+    side, file = 7 * dots, work.path("%s-%d.png" % (name, number))
+    ours, (width, theirs) = work.bitmap(name, number, dots, side), black(file)
+    if (width, len(theirs)) != (side, side):
+        return None, ["dvipng's page is %d by %d" % (width, len(theirs))]
+    notes = ["not what FORMATS.md says"] * (painted(page.marks, dots, side) != ours)
+    notes += ["dvipng rounds otherwise"] * (drawn(rules, side) != theirs)
+    return [black_pixels(it) for it in (map(int.__xor__, ours, theirs), ours, theirs)], notes
+
+
 def sheets_script(pages):
     """Pages of rules in rows, some of which are in part above or left of the page."""
     chance, script = Chance(0, SHEET_SEEDS), []
     for page in range(pages):
-        script += [
-            "set hoffset " + dimension(chance, -30, 60),
-            "set voffset " + dimension(chance, -30, 60),
-            "count 0 %d" % page,
-            "vbox into 0",
-        ]
+        script += ["set %s %s" % (it, dimension(chance, -30, 60)) for it in ("hoffset", "voffset")]
+        script += ["count 0 %d" % page, "vbox into 0"]
         for _ in range(4 + chance.below(20)):
             script.append("hbox")
             for _ in range(1 + chance.below(25)):
-                script.append(
-                    "rule %s %s %s"
-                    % (dimension(chance, 0, 40), dimension(chance, 0, 12), dimension(chance, 0, 5))
-                )
-                script.append("kern " + dimension(chance, -3, 20))
+                sizes = (dimension(chance, 0, most) for most in (40, 12, 5))
+                script += ["rule %s %s %s" % (*sizes,), "kern " + dimension(chance, -3, 20)]
             script.append("end")
         script += ["end", "ship 0"]
     return "\n".join(script) + "\n"
@@ -184,37 +169,39 @@ def sheets_script(pages):
 def sheets(work):
     """Each page of a book of rules, by `paint`, by dvipng, and by the formula from the places that
     dvitype says."""
-    dots, side, found, notes = 100, 700, Counter(), []
+    dots, name, found, notes = 100, "sheets.ours.dvi", Counter(), []
     work.typeset("sheets", sheets_script(280), [])
-    work.run(
-        "dvipng", "-q", "-D", str(dots), "-T", "7in,7in", "-o", "sheet%d.png", "sheets.ours.dvi"
+    by_dvipng(work, name, dots, name + "-%d.png")
+    read, rules = by_dvitype(name, work.folder).pages, dvipng_rules(name, work.folder, dots)
+    for number, (page, its) in enumerate(zip(read, rules), 1):
+        counts, wrong = compare_page(work, name, number, page, its, dots)
+        notes += ["page %d: %s" % (number, it) for it in wrong]
+        found.update(pages=1, rules=len(page.marks), differ=counts[0] if counts else 0)
+    sizes = found["pages"], found["rules"], found["pages"] * (7 * dots) ** 2, found["differ"]
+    form = (
+        "sheets: %d pages, %d rules, %d pixels; that differ from dvipng's %d; pages that are not "
     )
-    pages = zip(
-        by_dvitype("sheets.ours.dvi", work.folder).pages,
-        dvipng_rules("sheets.ours.dvi", work.folder, dots),
-    )
-    for number, (page, rules) in enumerate(pages, 1):
-        ours, (_, theirs) = work.bitmap("sheets.ours.dvi", number, dots, side), black(
-            work.path("sheet%d.png" % number)
-        )
-        if painted(page.marks, dots, side) != ours:
-            notes.append("page %d: not what FORMATS.md says" % number)
-        if drawn(rules, side) != theirs:
-            notes.append("page %d: dvipng rounds otherwise" % number)
-        found.update(
-            pages=1, rules=len(page.marks), differ=black_pixels(map(int.__xor__, ours, theirs))
-        )
-    line = (
-        "sheets: %d pages, %d rules, %d pixels; that differ from dvipng's %d; pages that are not what FORMATS.md says, or not what dvipng's rounding makes: %d"
-        % (
-            found["pages"],
-            found["rules"],
-            found["pages"] * side * side,
-            found["differ"],
-            len(notes),
-        )
-    )
-    work.show(line, {}, notes)
+    form += "what FORMATS.md says, or not what dvipng's rounding makes: %d"
+    work.show(form % (*sizes, len(notes)), {}, notes)
+
+
+DOTS = (72, 100, 144, 150, 300, 600)
+
+
+def paint(work):
+    """A page of 1,600 rules, by `paint` and by dvipng."""
+    name, parts, notes = "paint.ours.dvi", [], []
+    work.typeset("paint", inputs.many_rules(1600), [])
+    page = by_dvitype(name, work.folder).pages[0]
+    for dots in DOTS:
+        by_dvipng(work, name, dots, name + "-1.png")
+        rules = dvipng_rules(name, work.folder, dots)[0]
+        counts, wrong = compare_page(work, name, 1, page, rules, dots)
+        notes += ["%d dpi: %s" % (dots, it) for it in wrong]
+        if counts:
+            its = counts[0], (7 * dots) ** 2, dots, *counts[1:]
+            parts.append("%d of %d at %d dpi (black %d and %d)" % its)
+    work.show("paint: 1600 rules, pixels that differ from dvipng's: " + ", ".join(parts), {}, notes)
 
 
 # Random files.
@@ -227,39 +214,33 @@ class Letters(Chance):
         return bytes(97 + it % 26 for it in super().bytes(count))
 
 
+NOT_SELECTED = "files that define a font, before a page alone or without its metric file, which no page selects"
+
+
 def random_files(work):
     """DVI files of random instructions: whether boxglue and dvitype read them, and what both
     show."""
     tally, together, causes, notes = Tally(), Counter(), Counter(), []
-    with open(work.path("tiny.tfm"), "wb") as file:
-        file.write(TINY)
+    work.put("tiny.tfm", TINY)
     for number in work.seeds(1000):
         name = "random%d.dvi" % number
-        with open(work.path(name), "wb") as file:
-            file.write(framed(Letters(number, FILE_SEEDS)))
+        work.put(name, framed(Letters(number, FILE_SEEDS)))
         ours, theirs = work.listing(name, ["tiny=tiny.tfm"]), by_dvitype(name, work.folder)
         verdict = "read" if ours.pages is not None else ours.complaints[0].split()[-1]
         together[verdict, bool(theirs.complaints)] += 1
         if ours.pages is not None and not theirs.complaints:
             tally.pages(name, ours.pages, theirs.pages)
         elif ours.pages is not None and all(" loaded" in it for it in theirs.complaints):
-            causes[
-                "files that define a font, before a page alone or without its metric file, which no page selects"
-            ] += 1
+            causes[NOT_SELECTED] += 1
         elif (ours.pages is None) != bool(theirs.complaints):
-            notes.append(
-                "%s: boxglue: %s; dvitype: %s"
-                % (name, verdict, "; ".join(theirs.complaints[:2]) or "no complaint")
-            )
+            said = "; ".join(theirs.complaints[:2]) or "no complaint"
+            notes.append("%s: boxglue: %s; dvitype: %s" % (name, verdict, said))
     table = ", ".join(
         "%d %s%s" % (count, verdict, ", dvitype complains" if complains else "")
         for (verdict, complains), count in sorted(together.items())
     )
-    work.show(
-        "random_files: %s; `list` beside dvitype: %s" % (table, tally.shown()),
-        causes,
-        notes + tally.notes,
-    )
+    line = "random_files: %s; `list` beside dvitype: %s" % (table, tally.shown())
+    work.show(line, causes, notes + tally.notes)
 
 
 # A large file.
@@ -289,40 +270,27 @@ def listed(lines):
 
 
 def summed(pieces):
-    """The MD5 sum of these bytes, and how many they are."""
+    """How many these bytes are, and their MD5 sum."""
     found, size = hashlib.md5(), 0
     while piece := b"".join(islice(pieces, 10000)):
         found.update(piece)
         size += len(piece)
-    return found.hexdigest(), size
+    return size, found.hexdigest()
 
 
 def large(work):
     """A listing of a file of 140 MB, beside dvitype, by their sums."""
     metrics = work.fonts(["cmr10"])
     work.typeset("book", inputs.book(200)[0], metrics)
-    with open(work.path("book.ours.dvi"), "rb") as file:
-        content = inputs.repeated_pages(
-            file.read(), 101 if work.most_seeds is None else work.most_seeds - 1
-        )
-    with open(work.path("large.dvi"), "wb") as file:
-        file.write(content)
-    with subprocess.Popen(
-        [work.program, "list", "large.dvi", *metrics], cwd=work.folder, stdout=subprocess.PIPE
-    ) as list_of:
-        ours = summed(list_of.stdout)
-    with subprocess.Popen(
-        ["dvitype", "-output-level=4", "-page-start=" + ".".join("*" * 10), "large.dvi"],
-        cwd=work.folder,
-        stdin=subprocess.DEVNULL,
-        stdout=subprocess.PIPE,
-    ) as dvitype:
-        theirs = summed(listed(dvitype.stdout))
-    line = "large: %d bytes of DVI; listing of %d bytes, md5 %s; of dvitype %d, %s" % (
-        len(content),
-        ours[1],
-        ours[0],
-        theirs[1],
-        theirs[0],
-    )
+    times = 101 if work.most_seeds is None else work.most_seeds - 1
+    file = inputs.repeated_pages(content(work.path("book.ours.dvi")), times)
+    work.put("large.dvi", file)
+    by_boxglue, how = [work.program, "list", "large.dvi", *metrics], {"stdin": subprocess.DEVNULL}
+    how |= {"cwd": work.folder, "stdout": subprocess.PIPE}
+    with subprocess.Popen(by_boxglue, **how) as ran:
+        ours = summed(ran.stdout)
+    with subprocess.Popen([*BY_DVITYPE, "large.dvi"], **how) as ran:
+        theirs = summed(listed(ran.stdout))
+    form = "large: %d bytes of DVI; listing of %d bytes, md5 %s; of dvitype %d, %s"
+    line = form % (len(file), *ours, *theirs)
     work.show(line, {}, ["the listing is another one"] * (ours != theirs))

@@ -1,12 +1,14 @@
 """The metric files of TeX Live: whether boxglue, tftopl and tex read them, and what they say of
 sizes and of ligatures and kerns."""
 
+import glob
 import os
 import re
-import subprocess
 from collections import Counter
 from concurrent.futures import ThreadPoolExecutor
 
+from common.files import content
+from common.running import finished
 from generator import DAMAGE_SEEDS, FONT_SEEDS, Chance, other_bytes
 from outside_inputs import TEX_HEAD
 from outside_pages import Tally, by_dvitype
@@ -14,8 +16,12 @@ from outside_pages import Tally, by_dvitype
 TREES = ("/usr/share/texlive", "/usr/share/texmf")
 # dvitype has room for the widths of about a hundred fonts.
 BATCH, CHARACTERS = 60, 20
-WORDS = "office fluffier AVAWAY Toyota why ``quoted'' --- ?`Quien !` ff fi fl ffi ffl Wolf, P. y. r' f) (j [f]".split()
+WORDS = """office fluffier AVAWAY Toyota why ``quoted'' --- ?`Quien !` ff fi fl ffi ffl Wolf, P. y. r' f)
+    (j [f]""".split()
 JUNK = "There's some extra junk at the end of the TFM file"
+
+
+STEP = re.compile(r"(?m)^   \((LABEL|[/>A-Z]*LIG[/>]*|KRN|STOP)(?: O (\d+))?")
 
 
 class Listing:
@@ -23,24 +29,13 @@ class Listing:
     whether there are operations other than kerns and plain ligatures."""
 
     def __init__(self, path):
-        done = subprocess.run(
-            ["tftopl", "-charcode-format=octal", path],
-            stdin=subprocess.DEVNULL,
-            stdout=subprocess.PIPE,
-            stderr=subprocess.PIPE,
-        )
-        text = done.stdout.decode("latin-1")
-        self.path = path
-        self.complaints = [
-            line for line in done.stderr.decode("latin-1").split("\n") if line.strip()
-        ]
+        done = finished(["tftopl", "-charcode-format=octal", path])
+        text, errors = done.stdout.decode("latin-1"), done.stderr.decode("latin-1")
+        self.path, self.complaints = path, [it for it in errors.split("\n") if it.strip()]
         self.read = done.returncode == 0 and "CHECKSUM" in text
         self.codes = [int(code, 8) for code in re.findall(r"^\(CHARACTER O (\d+)", text, re.M)]
-        self.pairs, self.others = [], set()
-        lefts = []
-        for word, code in re.findall(
-            r"^   \((LABEL|[/>A-Z]*LIG[/>]*|KRN|STOP)(?: O (\d+))?", text, re.M
-        ):
+        self.pairs, self.others, lefts = [], set(), []
+        for word, code in STEP.findall(text):
             if word == "LABEL":
                 lefts += [int(code, 8)] if code else []
             elif word == "STOP":
@@ -49,16 +44,22 @@ class Listing:
                 self.pairs += [(left, int(code, 8)) for left in lefts]
                 self.others |= {word} - {"LIG", "KRN"}
 
+    def faults(self):
+        """The complaints about the file, but for bytes after its end."""
+        known = JUNK, "but I'll proceed as if it weren't there."
+        return [it for it in self.complaints if not it.startswith(known)]
 
-def files():
-    found = {
-        os.path.realpath(os.path.join(folder, name))
-        for tree in TREES
-        for folder, _, names in os.walk(tree)
-        for name in names
-        if name.endswith(".tfm")
-    }
-    return sorted(found)
+
+def live_files(pattern):
+    """The files of TeX Live whose names are so."""
+    paths = (it for tree in TREES for it in glob.glob(f"{tree}/**/{pattern}", recursive=True))
+    return sorted({*map(os.path.realpath, paths)})
+
+
+def listings_of(paths):
+    """What tftopl says of files."""
+    with ThreadPoolExecutor(2) as pool:
+        return list(pool.map(Listing, paths))
 
 
 def words_of(listing, chosen):
@@ -103,31 +104,22 @@ class Batch:
             self.keys[len(self.keys)] = (key, len(self.box))
 
     def font(self, number, slot, name, size):
-        self.add(
-            ["font %d %s%s" % (slot, name, size)],
-            "\\font\\x=%s%s \\say{\\fontname\\x}" % (name, size),
-            ("font", number, slot),
-        )
+        tex = "\\font\\x=%s%s \\say{\\fontname\\x}" % (name, size)
+        self.add(["font %d %s%s" % (slot, name, size)], tex, ("font", number, slot))
 
     def character(self, slot, code):
-        self.add(
-            ["hbox into 0", "use %d" % slot, "char %d" % code, "end"],
-            "\\setbox0=\\hbox{\\x\\noboundary\\char%d \\noboundary}\\saybox0" % code,
-            ("size", slot, code),
-        )
+        box = ["hbox into 0", "use %d" % slot, "char %d" % code, "end"]
+        tex = "\\setbox0=\\hbox{\\x\\noboundary\\char%d \\noboundary}\\saybox0" % code
+        self.add(box, tex, ("size", slot, code))
 
     def words(self, number, slot, words):
         """A page of words. TeX has no boundary character on both sides, as boxglue."""
-        self.add(
-            ["count 0 %d" % number, "vbox into 0"],
-            "\\font\\x=f%04d \\count0=%d\\setbox0=\\vbox{\\x" % (number, number),
-        )
+        tex = "\\font\\x=f%04d \\count0=%d\\setbox0=\\vbox{\\x" % (number, number)
+        self.add(["count 0 %d" % number, "vbox into 0"], tex)
         for word in words:
             codes = "".join("\\char%d " % ord(letter) for letter in word)
-            self.add(
-                ["hbox", "use %d" % slot, "text " + word, "end"],
-                "\\hbox{\\noboundary%s\\noboundary}" % codes,
-            )
+            box = ["hbox", "use %d" % slot, "text " + word, "end"]
+            self.add(box, "\\hbox{\\noboundary%s\\noboundary}" % codes)
         self.add(["end", "ship 0"], "}\\shipout\\box0")
 
 
@@ -168,12 +160,10 @@ class Readers:
     def file(self, listing, answer, said, other_size):
         """Compares what boxglue, at two sizes, and tex say of a file, and tftopl's listing."""
         ours, tex = answer == "ok", said != "nullfont"
-        proceeds = "but I'll proceed as if it weren't there."
         lines = listing.complaints
-        other = [it for it in lines if it != proceeds and not it.startswith(JUNK)]
         quiet = listing.read and not lines
         self.verdicts.update({"boxglue": ours, "tex": tex, "tftopl": quiet})
-        if ours and tex and listing.read and lines and not other:
+        if ours and tex and listing.read and lines and not listing.faults():
             self.causes[MORE_BYTES] += 1
         elif not ours == tex == quiet:
             by = answer, "read" if tex else "refused", "; ".join(lines[:3]) or "no complaint"
@@ -205,9 +195,8 @@ class Readers:
 
 def metrics(work):
     """Every metric file of TeX Live."""
-    paths, readers = files(), Readers()
-    with ThreadPoolExecutor(2) as pool:
-        listings = list(pool.map(Listing, paths))
+    paths, readers = live_files("*.tfm"), Readers()
+    listings = listings_of(paths)
     for first in range(0, len(paths), BATCH):
         part = listings[first : first + BATCH]
         batch, name = Batch(first, part), "metrics%d" % first
@@ -216,64 +205,48 @@ def metrics(work):
                 os.symlink(path, work.path(font + ".tfm"))
         fonts = ["%s=%s" % it for it in batch.names.items()]
         ours = work.typeset(name, "\n".join(batch.box) + "\n", fonts)
-        work.tex(name, "\n".join(batch.tex) + "\n\\end\n")
-        theirs = work.text(name + ".out").split("\n")[:-1]
+        theirs = work.tex(name, "\n".join(batch.tex) + "\n\\end\n")
         accepted = readers.answers(part, batch, ours, theirs)
         for i, listing in enumerate(part):
             readers.file(listing, *accepted[i], accepted[BATCH + i][0])
-        pages = [
-            {page.counts[0]: page for page in by_dvitype(file, work.folder).named()}
-            for file in (name + ".ours.dvi", name + ".dvi")
-        ]
-        for number in sorted(set(pages[0]) & set(pages[1])):
-            readers.page(listings[number], pages[0][number], pages[1][number])
+        read = [by_dvitype(name + end, work.folder).named() for end in (".ours.dvi", ".dvi")]
+        one, other = ({page.counts[0]: page for page in its} for its in read)
+        for number in sorted(set(one) & set(other)):
+            readers.page(listings[number], one[number], other[number])
     work.show(readers.shown(len(paths)), readers.causes, readers.notes + readers.tally.notes)
 
 
 def judge_damaged(work, first, batch, together, notes):
     """Gives damaged files, each with what was done to it and its listing, to boxglue and to tex,
     and counts who reads them."""
-    names = [name for (name, _), _ in batch]
+    names = [os.path.basename(listing.path)[:-4] for _, listing in batch]
     script = "".join("font %d %s\n" % it for it in enumerate(names))
-    fonts = ["%s=%s.tfm" % (it, it) for it in names]
-    answers = work.typeset("damaged%d" % first, script, fonts)
+    answers = work.typeset("damaged%d" % first, script, ["%s=%s.tfm" % (it, it) for it in names])
     says = "".join("\\font\\x=%s \\say{\\fontname\\x}%%\n" % it for it in names)
-    work.tex("damaged%d" % first, TEX_HEAD + says + "\\end\n")
-    theirs = work.text("damaged%d.out" % first).split("\n")
-    for i, ((_, what), listing) in enumerate(batch):
-        ours, tex = answers[i + 1], "refused" if theirs[i] == "nullfont" else "read"
-        complaints = [
-            line
-            for line in listing.complaints
-            if JUNK not in line and "but I'll proceed" not in line
-        ]
-        third = "refused" if not listing.read else "corrected" if complaints else "read"
+    theirs = work.tex("damaged%d" % first, TEX_HEAD + says + "\\end\n")
+    for at, (what, listing) in enumerate(batch):
+        ours, tex = answers[at + 1], "refused" if theirs[at] == "nullfont" else "read"
+        faults = listing.faults()
+        third = "refused" if not listing.read else "corrected" if faults else "read"
         together[("read" if ours == "ok" else "refused", tex, third)] += 1
         if (ours == "ok") != (tex == "read"):
-            said = what, ours, tex, third, "; ".join(complaints[:2])
-            notes.append("%s: boxglue: %s; tex: %s; tftopl: %s, %s" % said)
+            all_said = what, ours, tex, third, "; ".join(faults[:2])
+            notes.append("%s: boxglue: %s; tex: %s; tftopl: %s, %s" % all_said)
 
 
 def damaged(work):
     """Metric files of TeX Live with one byte changed, most of them in the tables that readers
     check: who reads them."""
-    chosen, small = Chance(0, DAMAGE_SEEDS), [
-        path for path in files() if os.path.getsize(path) < 3000
-    ]
-    cases = []
+    chosen, together, notes, cases = Chance(0, DAMAGE_SEEDS), Counter(), [], []
+    small = [path for path in live_files("*.tfm") if os.path.getsize(path) < 3000]
     for number in range(450):
         path = chosen.pick(small)
-        with open(path, "rb") as file:
-            good = file.read()
+        good = content(path)
         data = other_bytes(chosen, good, 1, chosen.pick((24, 32, 200, len(good), len(good))))
         place = next(at for at, two in enumerate(zip(good, data)) if two[0] != two[1])
-        name = "d%03d" % number
-        with open(work.path(name + ".tfm"), "wb") as file:
-            file.write(data)
-        cases.append((name, "%s with byte %d set to %d" % (path, place, data[place])))
-    with ThreadPoolExecutor(2) as pool:
-        listings = list(pool.map(Listing, [work.path(name + ".tfm") for name, _ in cases]))
-    together, notes = Counter(), []
+        work.put("d%03d.tfm" % number, data)
+        cases.append("%s with byte %d set to %d" % (path, place, data[place]))
+    listings = listings_of(work.path("d%03d.tfm" % number) for number in range(len(cases)))
     # TeX gives up after a hundred errors.
     for first in range(0, len(cases), 90):
         batch = list(zip(cases, listings))[first : first + 90]

@@ -6,6 +6,9 @@ import subprocess
 import zlib
 from collections import Counter, namedtuple
 
+from common.files import content
+from common.running import finished
+
 # A mark is a glyph (what: font and code), a rule (what: height and width) or a special (what: its
 # text).
 Mark = namedtuple("Mark", "kind what h v")
@@ -18,6 +21,8 @@ SAVED = re.compile(r"level \d+:\(h=(-?\d+),v=(-?\d+),")
 RULE = re.compile(r"height (-?\d+), width (-?\d+)")
 FONT = re.compile(r"Font (\d+): (.+?)(?: scaled \d+)?---loaded at size (\d+) DVI units")
 MOST_TEXT = 1 << 28
+# With ten stars dvitype says all ten counts of a page.
+BY_DVITYPE = ["dvitype", "-output-level=4", "-page-start=" + ".".join("*" * 10)]
 UNITS = re.compile(r"numerator/denominator=(\d+)/(\d+)\nmagnification=(\d+);")
 COMPLAINT = re.compile(r"!|invalid|not loaded|beware|Bad DVI")
 # A mark outside the greatest sizes of post is no fault: a box may be wider than its width. dvitype
@@ -37,32 +42,40 @@ class Reading:
         writers number fonts differently."""
 
         def of(mark):
-            return (
-                mark._replace(what=(self.fonts[mark.what[0]], mark.what[1]))
-                if mark.kind == "glyph"
-                else mark
-            )
+            if mark.kind != "glyph":
+                return mark
+            return mark._replace(what=(self.fonts[mark.what[0]], mark.what[1]))
 
         return [Page(page.counts, [of(mark) for mark in page.marks]) for page in self.pages]
 
 
+def said_by(*words, **how):
+    """The status and the text of a run, whose errors stand among its output, unless `how` says
+    where they go."""
+    streams = {"stdout": subprocess.PIPE, "stderr": subprocess.STDOUT}
+    ran = finished(words, **{**streams, **how})
+    return ran.returncode, ran.stdout.decode("latin-1")
+
+
 def text_of_dvitype(path, folder):
     """What dvitype prints of a file at level 4, and its status."""
-    # With ten stars dvitype says all ten counts of a page.
-    words = ["dvitype", "-output-level=4", "-page-start=" + ".".join("*" * 10), path]
-    with subprocess.Popen(
-        words,
-        cwd=folder,
-        stdin=subprocess.DEVNULL,
-        stdout=subprocess.PIPE,
-        stderr=subprocess.STDOUT,
-    ) as done:
+    how = {"cwd": folder, "stdin": subprocess.DEVNULL, "stderr": subprocess.STDOUT}
+    with subprocess.Popen([*BY_DVITYPE, path], stdout=subprocess.PIPE, **how) as done:
         text = done.stdout.read(MOST_TEXT).decode("latin-1")
         # After the end of a file dvitype reads zeros, so a special may have as many as its length
         # says.
         if len(text) == MOST_TEXT:
             done.kill()
     return text, done.returncode
+
+
+def steps_of(text):
+    """Each line of such a text, and of a step its name, the number in that, and the rest. Lines in
+    brackets repeat the letters of a line of text."""
+    for line in text.split("\n"):
+        if not line.startswith("["):
+            step = STEP.match(line)
+            yield line, *(step.groups() if step else (None, None, ""))
 
 
 def is_complaint(name, line):
@@ -87,10 +100,7 @@ def by_dvitype(path, folder):
     pages, fonts, complaints = [], {}, []
     h = v = 0
     font, marks = None, []
-    # Lines in brackets repeat the letters of a line of text.
-    for line in (it for it in text.split("\n") if not it.startswith("[")):
-        step = STEP.match(line)
-        name, number, rest = step.groups() if step else (None, None, None)
+    for line, name, number, rest in steps_of(text):
         if is_complaint(name, line):
             complaints.append(line)
         if name == "beginning":
@@ -111,10 +121,8 @@ def by_dvitype(path, folder):
             font = int(number)
         elif name == "fnt":
             font = int(rest.split()[0])
-        elif not step and line.startswith("Font"):
-            found = FONT.match(line)
-            if found:
-                fonts[int(found[1])] = (found[2].split(":")[-1], int(found[3]))
+        elif not name and (found := FONT.match(line)):
+            fonts[int(found[1])] = (found[2].split(":")[-1], int(found[3]))
         if name != "xxx":
             h, v = moved(line, h, v)
     if status:
@@ -130,15 +138,8 @@ def unescaped(text):
 def by_boxglue(program, path, folder, fonts):
     """A reading by `boxglue list` with these words for the fonts; its pages are None where the file
     is refused."""
-    done = subprocess.run(
-        [program, "list", path, *fonts],
-        cwd=folder,
-        stdin=subprocess.DEVNULL,
-        stdout=subprocess.PIPE,
-        stderr=subprocess.STDOUT,
-    )
-    text = done.stdout.decode("latin-1")
-    if done.returncode:
+    status, text = said_by(program, "list", path, *fonts, cwd=folder)
+    if status:
         return Reading(None, {}, [text.strip()])
     pages = []
     for line in text.split("\n")[:-1]:
@@ -173,30 +174,20 @@ class Tally:
         if ours.counts != theirs.counts:
             self.far["page"] += 1
             self.note("%s: counts %s and %s" % (name, ours.counts, theirs.counts))
-        if [(mark.kind, mark.what) for mark in ours.marks] != [
-            (mark.kind, mark.what) for mark in theirs.marks
-        ]:
+        marks = [[mark[:2] for mark in page.marks] for page in (ours, theirs)]
+        if marks[0] != marks[1]:
             self.far["page"] += 1
-            at = next(
-                (
-                    i
-                    for i, two in enumerate(zip(ours.marks, theirs.marks))
-                    if two[0][:2] != two[1][:2]
-                ),
-                min(len(ours.marks), len(theirs.marks)),
-            )
-            self.note(
-                "%s: other marks from mark %d: %s and %s"
-                % (name, at, ours.marks[at : at + 1], theirs.marks[at : at + 1])
-            )
+            differ = (at for at, (one, other) in enumerate(zip(*marks)) if one != other)
+            at = next(differ, min(map(len, marks)))
+            others = ours.marks[at : at + 1], theirs.marks[at : at + 1]
+            self.note("%s: other marks from mark %d: %s and %s" % (name, at, *others))
             return False
         same = True
         for one, other in zip(ours.marks, theirs.marks):
             self.seen[one.kind] += 1
             away = max(abs(one.h - other.h), abs(one.v - other.v))
-            if away == 1:
-                self.near[one.kind] += 1
-            elif away:
+            self.near[one.kind] += away == 1
+            if away > 1:
                 if same:
                     self.note("%s: %s and %s" % (name, one, other))
                 self.far[one.kind], same = self.far[one.kind] + 1, False
@@ -207,74 +198,57 @@ class Tally:
         if len(ours) != len(theirs):
             self.far["page"] += 1
             self.note("%s: %d and %d pages" % (name, len(ours), len(theirs)))
-        return all(
-            [
-                self.page("%s, page %d" % (name, i + 1), one, other)
-                for i, (one, other) in enumerate(zip(ours, theirs))
-            ]
-        )
+        for number, two in enumerate(zip(ours, theirs), 1):
+            self.page("%s, page %d" % (name, number), *two)
 
     def add(self, other):
-        self.seen, self.near, self.far, self.notes = (
-            self.seen + other.seen,
-            self.near + other.near,
-            self.far + other.far,
-            self.notes + other.notes,
-        )
+        for name, its in vars(other).items():
+            setattr(self, name, getattr(self, name) + its)
 
     def shown(self):
-        def counts(counter):
-            return (
-                ", ".join(
-                    "%d %s%s" % (counter[kind], kind, "" if counter[kind] == 1 else "s")
-                    for kind in ("page", "glyph", "rule", "special")
-                    if counter[kind]
-                )
-                or "nothing"
-            )
-
-        return "%s; 1 sp off: %s; otherwise: %s" % (
-            counts(self.seen),
-            counts(self.near),
-            counts(self.far),
-        )
+        counts = [
+            [
+                "%d %s%s" % (counter[kind], kind, "s" * (counter[kind] != 1))
+                for kind in ("page", "glyph", "rule", "special")
+                if counter[kind]
+            ]
+            for counter in (self.seen, self.near, self.far)
+        ]
+        forms = tuple(", ".join(it) or "nothing" for it in counts)
+        return "%s; 1 sp off: %s; otherwise: %s" % forms
 
 
 def black(path):
     """The width of a picture of dvipng, whose pixels are places in a table of colours, and its rows
     as numbers whose bits are 1 where it is black."""
-    with open(path, "rb") as file:
-        data = file.read()
-    parts, at = {}, 8
+    data, parts, at = content(path), {}, 8
     while at < len(data):
         length, kind = struct.unpack(">I4s", data[at : at + 8])
         parts[kind] = parts.get(kind, b"") + data[at + 8 : at + 8 + length]
         at += length + 12
     width, height, depth = struct.unpack(">IIB", parts[b"IHDR"][:9])
-    colours = [sum(parts[b"PLTE"][i : i + 3]) < 384 for i in range(0, len(parts[b"PLTE"]), 3)]
-    each = 8 // depth
+    colours = [sum(it) < 384 for it in struct.iter_unpack("3B", parts[b"PLTE"])]
+    colours += [False] * ((1 << depth) - len(colours))
     shown = [
         "".join(
-            "01"[
-                colours[value >> shift & (1 << depth) - 1]
-                if value >> shift & (1 << depth) - 1 < len(colours)
-                else 0
-            ]
+            "01"[colours[value >> shift & (1 << depth) - 1]]
             for shift in range(8 - depth, -1, -depth)
         )
         for value in range(256)
     ]
-    data, size, above, rows = zlib.decompress(parts[b"IDAT"]), -(-width // each), None, []
-    above = bytearray(size)
-    for row in range(height):
-        kind, line = data[row * (size + 1)], bytearray(
-            data[row * (size + 1) + 1 : (row + 1) * (size + 1)]
-        )
-        for i in range(size if kind else 0):
-            left, up, corner = (line[i - 1] if i else 0), above[i], (above[i - 1] if i else 0)
-            guess = left + up - corner
-            nearest = min((left, up, corner), key=lambda it: abs(guess - it))
-            line[i] = line[i] + (0, left, up, (left + up) // 2, nearest)[kind] & 255
-        rows.append(int("".join(map(shown.__getitem__, line))[:width], 2))
-        above = line
+    data, size, rows = zlib.decompress(parts[b"IDAT"]), -(-width * depth // 8), []
+    above = bytes(size)
+    for row in range(0, height * (size + 1), size + 1):
+        above = unfiltered(data[row], bytearray(data[row + 1 : row + size + 1]), above)
+        rows.append(int("".join(map(shown.__getitem__, above))[:width], 2))
     return width, rows
+
+
+def unfiltered(kind, line, above):
+    """A row of a picture, from its filter and what that made of the row, and the row above it."""
+    for i in range(len(line) if kind else 0):
+        left, up, corner = (line[i - 1] if i else 0), above[i], (above[i - 1] if i else 0)
+        guess = left + up - corner
+        nearest = min((left, up, corner), key=lambda it: abs(guess - it))
+        line[i] = line[i] + (0, left, up, (left + up) // 2, nearest)[kind] & 255
+    return line

@@ -4,6 +4,8 @@ places of all marks."""
 import re
 import sys
 from collections import Counter
+from functools import partial
+from typing import NamedTuple
 
 import outside_inputs
 from outside_pages import Tally, by_dvitype
@@ -19,6 +21,10 @@ LOOSE = (
 )
 
 
+OTHER_BREAKS = "paragraphs with equal demerits and other breaks"
+OTHER_PAGES = "pages with a paragraph of equal demerits and other breaks"
+
+
 class Compared:
     """What came out of pairs of a script and a text of TeX."""
 
@@ -27,94 +33,78 @@ class Compared:
         self.unequal, self.ours, self.listed = [], Tally(), Tally()
         self.causes, self.ties = Counter(), []
 
-
-def run_pair(work, name, pair, found):
-    """Runs both, and returns boxglue's answers, the pages of both files by count 0, and the answers
-    that are unequal, with the paragraphs on which they depend."""
-    script, text = pair.script()
-    fonts = work.fonts(["cmr10", "cmbx12", "cmti10"])
-    answers = work.typeset(name, script, fonts)
-    work.tex(name, text)
-    theirs = work.text(name + ".out").split("\n")[:-1]
-    if len(theirs) != len(pair.expected):
-        sys.exit(
-            "%s: TeX gave %d answers, not %d; see %s"
-            % (name, len(theirs), len(pair.expected), work.path(name + ".log"))
-        )
-    unequal = []
-    for (line, paragraph), answer in zip(pair.expected, theirs):
-        found.answers[answer.split()[0]] += 1
-        if answers[line] != answer:
-            unequal.append(
-                (paragraph, "%s, line %d: %s and %s" % (name, line, answers[line], answer))
-            )
-    ours, other = by_dvitype(name + ".ours.dvi", work.folder), by_dvitype(
-        name + ".dvi", work.folder
-    )
-    found.unequal += ["%s: dvitype: %s" % (name, it) for it in ours.complaints]
-    listing = work.listing(name + ".ours.dvi", fonts)
-    found.listed.pages(name, listing.pages or [], ours.pages)
-    return (
-        answers,
-        {page.counts[0]: page for page in ours.named()},
-        {page.counts[0]: page for page in other.named()},
-        unequal,
-    )
+    def tie(self, cause, where):
+        """Breaks that are others than those of TeX, and as good."""
+        self.causes[cause] += 1
+        self.ties.append(where + ": equal demerits, other breaks")
 
 
-def alike(found, name, ours, theirs, unequal, without=()):
-    """Compares pages and answers, without those of some paragraphs."""
-    found.unequal += [text for paragraph, text in unequal if paragraph not in without]
-    if set(ours) != set(theirs):
-        found.unequal.append(
-            "%s: pages %s of one file only" % (name, sorted(set(ours) ^ set(theirs))[:9])
-        )
-    for count in sorted(set(ours) & set(theirs)):
-        if count not in without:
-            found.ours.page("%s, page with count %d" % (name, count), ours[count], theirs[count])
+class Both:
+    """What boxglue and TeX made of a pair: boxglue's answers, those that are unequal, with the
+    paragraphs on which they depend, and the pages of both files by count 0."""
+
+    def __init__(self, work, name, pair, found):
+        script, text = pair.script()
+        fonts = work.fonts(["cmr10", "cmbx12", "cmti10"])
+        self.name, self.unequal = name, []
+        self.answers, theirs = work.typeset(name, script, fonts), work.tex(name, text)
+        if len(theirs) != len(pair.expected):
+            counts = len(theirs), len(pair.expected)
+            log = work.path(name + ".log")
+            sys.exit("%s: TeX gave %d answers, not %d; see %s" % (name, *counts, log))
+        for (line, paragraph), answer in zip(pair.expected, theirs):
+            found.answers[answer.split()[0]] += 1
+            if self.answers[line] != answer:
+                both = "%s, line %d: %s and %s" % (name, line, self.answers[line], answer)
+                self.unequal.append((paragraph, both))
+        read = [by_dvitype(name + end, work.folder) for end in (".ours.dvi", ".dvi")]
+        found.unequal += ["%s: dvitype: %s" % (name, it) for it in read[0].complaints]
+        listing = work.listing(name + ".ours.dvi", fonts)
+        found.listed.pages(name, listing.pages or [], read[0].pages)
+        self.ours, self.theirs = ({it.counts[0]: it for it in its.named()} for its in read)
+
+    def others(self, without=()):
+        """The counts of the pages that are not alike."""
+        counts = {*self.ours} & {*self.theirs} - {*without}
+        return [it for it in counts if not Tally().page("", self.ours[it], self.theirs[it])]
+
+    def compare(self, found, pages=(), paragraphs=()):
+        """Compares pages and answers, without those of some pages and paragraphs."""
+        found.unequal += [text for paragraph, text in self.unequal if paragraph not in paragraphs]
+        alone = sorted({*self.ours} ^ {*self.theirs})
+        if alone:
+            found.unequal.append("%s: pages %s of one file only" % (self.name, alone[:9]))
+        for count in sorted({*self.ours} & {*self.theirs} - {*pages}):
+            where = "%s, page with count %d" % (self.name, count)
+            found.ours.page(where, self.ours[count], self.theirs[count])
 
 
 def said(work, part, found):
     """Prints what came out of a part."""
     answers = ", ".join("%d %s" % (count, word) for word, count in sorted(found.answers.items()))
-    line = "%s: answers %s, unequal %d; TeX's pages: %s; `list` beside dvitype: %s" % (
-        part,
-        answers,
-        len(found.unequal),
-        found.ours.shown(),
-        found.listed.shown(),
-    )
-    work.show(
-        line, found.causes, found.unequal + found.ours.notes + found.listed.notes + found.ties
-    )
+    pages = found.ours.shown(), found.listed.shown()
+    form = "%s: answers %s, unequal %d; TeX's pages: %s; `list` beside dvitype: %s"
+    notes = found.unequal + found.ours.notes + found.listed.notes + found.ties
+    work.show(form % (part, answers, len(found.unequal), *pages), found.causes, notes)
 
 
-def boxes(work):
-    """Random boxes: sizes, badness, places of all marks."""
+def alike(part, make, seeds, count, work):
+    """Random work of which all is compared: sizes, badness, places of all marks."""
     found = Compared()
-    for seed in work.seeds(20):
-        pair = outside_inputs.boxes(seed, 100)
-        _, ours, theirs, unequal = run_pair(work, "boxes%d" % seed, pair, found)
-        alike(found, "boxes%d" % seed, ours, theirs, unequal)
-    said(work, "boxes", found)
+    for seed in work.seeds(seeds):
+        name = "%s%d" % (part, seed)
+        Both(work, name, make(seed, count), found).compare(found)
+    said(work, part, found)
 
 
-def splits(work):
-    """Random vertical lists that are split."""
-    found = Compared()
-    for seed in work.seeds(10):
-        pair = outside_inputs.splits(seed, 60)
-        _, ours, theirs, unequal = run_pair(work, "splits%d" % seed, pair, found)
-        alike(found, "splits%d" % seed, ours, theirs, unequal)
-    said(work, "splits", found)
+boxes = partial(alike, "boxes", outside_inputs.boxes, 20, 100)
+splits = partial(alike, "splits", outside_inputs.splits, 10, 60)
 
 
 def long_script(work):
     """The same in one script, which is read in many blocks."""
-    found = Compared()
-    pair = outside_inputs.splits(11, 1500)
-    _, ours, theirs, unequal = run_pair(work, "long_script", pair, found)
-    alike(found, "long_script", ours, theirs, unequal)
+    found, pair = Compared(), outside_inputs.splits(11, 1500)
+    Both(work, "long_script", pair, found).compare(found)
     said(work, "long_script (%d lines)" % len(pair.box), found)
 
 
@@ -123,12 +113,14 @@ NODE = re.compile(r"@@(\d+): line (\d+)\.\d-? t=(-?\d+) -> @@(\d+)")
 ENDED = re.compile(r"@paragraph (\d+) (\d+)")
 
 
-class Trace:
-    """What TeX's trace says of a paragraph: its lines, the demerits of the list it takes, and
-    badness and demerits of each line, from the last."""
+class Trace(NamedTuple):
+    """What TeX's trace says of a paragraph: its lines, the pass, the demerits of the list it takes,
+    and badness and demerits of each line, from the last."""
 
-    def __init__(self, lines, attempt, total, chain):
-        self.lines, self.attempt, self.total, self.chain = lines, attempt, total, chain
+    lines: int
+    attempt: int
+    total: int
+    chain: list
 
 
 def traces(log):
@@ -172,9 +164,7 @@ def judged(answer, trace, used, found, where):
     # Without demerits, a line is one that TeX takes for want of a better one, or the only one that
     # reaches a forced place (TeX: The Program, 854).
     free = [badness for badness, demerits in trace.chain if demerits == "*"]
-    forced = [
-        int(badness) for badness in free if badness != "*" and int(badness) <= used["tolerance"]
-    ]
+    forced = [int(it) for it in free if it != "*" and int(it) <= used["tolerance"]]
     attempt = 3 if len(forced) < len(free) else trace.attempt
     if total > MOST_DEMERITS:
         found.causes["paragraphs above 2^30 - 1 demerits, which TeX does not take"] += 1
@@ -197,59 +187,40 @@ def judged(answer, trace, used, found, where):
         found.causes[LOOSE] += 1
         return False
     elif total != trace.total or lines != len(trace.chain) or lines != trace.lines:
-        found.unequal.append(
-            "%s: %s; TeX: lines %d, demerits %d" % (where, answer, trace.lines, trace.total)
-        )
+        both = where, answer, trace.lines, trace.total
+        found.unequal.append("%s: %s; TeX: lines %d, demerits %d" % both)
     return True
 
 
-def paragraphs(work):
-    """Random paragraphs of rules and of text, with first lines of their own width."""
-    broken(
-        work,
-        "paragraphs",
-        (
-            outside_inputs.paragraphs(seed, 100, "rules" if seed % 2 else "text")
-            for seed in work.seeds(40)
-        ),
-    )
+def not_comparable(work, name, pair, both, found):
+    """The lines of the answers to the paragraphs whose lines are not comparable, by the numbers of
+    these."""
+    traced, others = traces(work.text(name + ".log")), {}
+    for number, line, used in pair.paragraphs:
+        where = "%s, paragraph %d" % (name, number)
+        if not judged(both.answers[line], traced[number], used, found, where):
+            others[number] = line
+    return others
 
 
-def long_paragraphs(work):
-    """Random paragraphs of text of up to 8,192 places."""
-    broken(
-        work,
-        "long_paragraphs",
-        (outside_inputs.long_paragraphs(seed, 10) for seed in work.seeds(6)),
-    )
-
-
-def broken(work, part, pairs):
+def broken(part, make, seeds, count, work):
     """What came out of paragraphs that are pages of their own: the pass, the demerits, and the
     places of all marks."""
     found = Compared()
-    for seed, pair in enumerate(pairs, 1):
-        name = "%s%d" % (part, seed)
-        answers, ours, theirs, unequal = run_pair(work, name, pair, found)
-        traced = traces(work.text(name + ".log"))
-        without = [
-            number
-            for number, line, used in pair.paragraphs
-            if not judged(
-                answers[line], traced[number], used, found, "%s, paragraph %d" % (name, number)
-            )
-        ]
+    for seed in work.seeds(seeds):
+        name, pair = "%s%d" % (part, seed), make(seed, count)
+        both = Both(work, name, pair, found)
+        without = [*not_comparable(work, name, pair, both, found)]
         # Where boxglue's list has the demerits of TeX's, but other lines, both are the least.
-        ties = [
-            number
-            for number in set(ours) & set(theirs) - set(without)
-            if not Tally().page("", ours[number], theirs[number])
-        ]
+        ties = both.others(without)
         for number in ties:
-            found.causes["paragraphs with equal demerits and other breaks"] += 1
-            found.ties.append("%s, paragraph %d: equal demerits, other breaks" % (name, number))
-        alike(found, name, ours, theirs, unequal, without + ties)
+            found.tie(OTHER_BREAKS, "%s, paragraph %d" % (name, number))
+        both.compare(found, without + ties, without + ties)
     said(work, part, found)
+
+
+paragraphs = partial(broken, "paragraphs", outside_inputs.paragraphs, 40, 100)
+long_paragraphs = partial(broken, "long_paragraphs", outside_inputs.long_paragraphs, 6, 10)
 
 
 def pages(work):
@@ -257,36 +228,14 @@ def pages(work):
     their own width."""
     found = Compared()
     for seed in work.seeds(8):
-        name = "pages%d" % seed
-        pair = outside_inputs.pages(seed, 8)
-        answers, ours, theirs, unequal = run_pair(work, name, pair, found)
-        traced, before = traces(work.text(name + ".log")), len(found.unequal)
-        found.unequal += [
-            "%s, line %d: pass 3" % (name, line)
-            for number, line, used in pair.paragraphs
-            if not judged(
-                answers[line], traced[number], used, found, "%s, paragraph %d" % (name, number)
-            )
-        ]
+        name, pair = "pages%d" % seed, outside_inputs.pages(seed, 8)
+        both, before = Both(work, name, pair, found), len(found.unequal)
+        lines = not_comparable(work, name, pair, both, found).values()
+        found.unequal += ["%s, line %d: pass 3" % (name, line) for line in lines]
         # Where all demerits are those of TeX, lines with other breaks are as good.
-        ties = [
-            count
-            for count in set(ours) & set(theirs)
-            if len(found.unequal) == before and not Tally().page("", ours[count], theirs[count])
-        ]
+        ties = both.others() if len(found.unequal) == before else []
         for count in ties:
-            found.causes["pages with a paragraph of equal demerits and other breaks"] += 1
-            found.ties.append(
-                "%s, page with count %d: equal demerits, other breaks" % (name, count)
-            )
+            found.tie(OTHER_PAGES, "%s, page with count %d" % (name, count))
         # The answers about a list with such a paragraph may differ too.
-        lists = {count // 10 for count in ties}
-        alike(
-            found,
-            name,
-            ours,
-            theirs,
-            [(None, text) for number, text in unequal if number not in lists],
-            ties,
-        )
+        both.compare(found, ties, {count // 10 for count in ties})
     said(work, "pages", found)

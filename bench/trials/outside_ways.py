@@ -1,12 +1,11 @@
 """Another way to boxglue's answers than `typeset`: a session."""
 
 import os
-import re
 import select
 import subprocess
 import sys
 
-from outside_work import Work
+from outside_work import Work, answers_in
 
 # An answer that is not there after so many seconds waits for what the client does not give yet.
 PATIENCE = 120
@@ -19,18 +18,14 @@ class SessionWork(Work):
     def typeset(self, name, script, fonts):
         self.put(name + ".box", script)
         words, answers = [self.program, "session", name + ".ours.dvi", *fonts], []
-        with subprocess.Popen(
-            words, cwd=self.folder, stdin=subprocess.PIPE, stdout=subprocess.PIPE, bufsize=0
-        ) as session:
+        pipes = {"stdin": subprocess.PIPE, "stdout": subprocess.PIPE, "bufsize": 0}
+        with subprocess.Popen(words, cwd=self.folder, **pipes) as session:
             for line in script.encode().splitlines(keepends=True):
                 session.stdin.write(line)
                 answers.append(one_line(session.stdout.fileno(), line))
             session.stdin.close()
             answers.append(session.stdout.read())
-        return {
-            int(number): answer
-            for number, answer in re.findall(r"^(\d+): (.*)$", b"".join(answers).decode(), re.M)
-        }
+        return answers_in(b"".join(answers).decode())
 
 
 def one_line(output, given):
