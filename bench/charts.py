@@ -3,9 +3,10 @@
 FOLDER], by default docs/speed.tsv, docs/speed_large.tsv and docs.
 
   speed_places.svg  microseconds and instructions per place against the length of the paragraph, at
-  both widths, beside tex speed_items.svg   bars for each case and each of its peers: time,
-  instructions, D1 misses and memory as a ratio to the peer speed_memory.svg  the peak memory of
-  small and large cases, beside the peer where there is one
+                    both widths, beside tex
+  speed_items.svg   bars for each case and each of its peers: time, instructions, D1 misses and
+                    memory as a ratio to the peer
+  speed_memory.svg  the peak memory of small and large cases, beside the peer where there is one
 
 It needs nothing but Python: the charts are written as text."""
 

@@ -56,6 +56,11 @@ def live_files(pattern):
     return sorted({*map(os.path.realpath, paths)})
 
 
+def metric_files():
+    """The metric files of TeX Live, but for those of its documents."""
+    return [it for it in live_files("*.tfm") if it.startswith(TREES)]
+
+
 def listings_of(paths):
     """What tftopl says of files."""
     with ThreadPoolExecutor(2) as pool:
@@ -195,7 +200,7 @@ class Readers:
 
 def metrics(work):
     """Every metric file of TeX Live."""
-    paths, readers = live_files("*.tfm"), Readers()
+    paths, readers = metric_files(), Readers()
     listings = listings_of(paths)
     for first in range(0, len(paths), BATCH):
         part = listings[first : first + BATCH]
@@ -238,7 +243,7 @@ def damaged(work):
     """Metric files of TeX Live with one byte changed, most of them in the tables that readers
     check: who reads them."""
     chosen, together, notes, cases = Chance(0, DAMAGE_SEEDS), Counter(), [], []
-    small = [path for path in live_files("*.tfm") if os.path.getsize(path) < 3000]
+    small = [path for path in metric_files() if os.path.getsize(path) < 3000]
     for number in range(450):
         path = chosen.pick(small)
         good = content(path)
