@@ -300,14 +300,13 @@ def talk_with(room, it):
 
 def require_parts(ran, status, output, errors, made):
     """The parts of a run are these."""
-    said = "status", "answers", "standard error"
-    for name, found, its in zip(said, ran, (status, output, errors)):
+    names = "the status is", "the answers are", "standard error is"
+    for name, found, its in zip(names, ran, (status, output, errors)):
         shown = [it if isinstance(it, int) else it[-200:] for it in (found, its)]
-        require(
-            found == its, f"the {name} is {shown[0]!r} and not {shown[1]!r}, {ran.errors[-200:]!r}"
-        )
-    sizes = [it and len(it) for it in (ran.made, made)]
-    require(ran.made == made, "the file has %s bytes and not %s" % (*sizes,))
+        said = f"{name} {shown[0]!r} and not {shown[1]!r}, {ran.errors[-200:]!r}"
+        require(found == its, said)
+    sizes = tuple(it and len(it) for it in (ran.made, made))
+    require(ran.made == made, "the file has %s bytes and not %s" % sizes)
 
 
 def check_signal(room, it, ran, wanted):
