@@ -316,6 +316,7 @@ def main():
     parser.add_argument("--out", default=DOCS, metavar="FOLDER")
     words = parser.parse_args()
     figures = Figures(words.data)
+    os.makedirs(words.out, exist_ok=True)
     draw_places(figures, words.out)
     draw_items(figures, words.out)
     draw_memory(figures, words.out)
