@@ -213,3 +213,13 @@ def dvi_file(pages, height, width):
     data += b"\xf9" + number(post, 4) + b"\x02"
     data += b"\xdf" * (4 + -len(data) % 4)
     return DviFile(bytes(data), tuple(ends), post)
+
+
+def page_file(body, height=0, width=0, fonts=()):
+    """The file of one page of these sizes, with the fonts that are defined before it."""
+    return dvi_file([Page(body, new_fonts=tuple(fonts))], height, width)
+
+
+def changed(data, at, bytes_there):
+    """The bytes of a file, with some replaced at a place."""
+    return data[:at] + bytes_there + data[at + len(bytes_there) :]

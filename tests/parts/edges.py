@@ -2,28 +2,22 @@
 7, which also has the expected answers."""
 from common.long_runs import Run, Work
 from common.part import in_turn
-from models.dvi_writer import Font, Page, definition, down, dvi_file, number, put_rule, right
-from models.dvi_writer import select, set_char, xxx
-from models.large_inputs import PT, TINY, ZERO_COUNTS, listed, rule_mark, special_mark
+from models.dvi_writer import Font, Page, changed, definition, down, dvi_file, number, page_file
+from models.dvi_writer import put_rule, right, select, xxx
+from models.large_inputs import C, PT, TINY, ZERO_COUNTS, listed, listed_page, rule_mark
+from models.large_inputs import special_mark
 from parts.sizes import call_of
 
 TITLE = "DVI files at the edges of their numbers: lengths, names, pointers, sizes and places"
 NEEDS_PROGRAM = True
 SPLIT = in_turn(4)
 
-BOP, POINTER = (
-    15,
-    41,
-)  # The place of a first bop without a definition before it; the place of the pointer in a bop.
-BODY = BOP + 45
+# The place of a first bop without a definition before it; the place of the pointer in a bop.
+BOP, POINTER = 15, 41
+BODY, POST_SIZE = BOP + 45, 29
 GREATEST, LEAST = (1 << 31) - 1, -(1 << 31)
 TINY_10PT = Font(0, b"tiny")
 DEFINITION = len(definition(TINY_10PT))
-
-
-def changed(data, at, bytes_there):
-    """The bytes of a file, with some replaced at a place."""
-    return data[:at] + bytes_there + data[at + len(bytes_there) :]
 
 
 def refused(data, place, cause):
@@ -31,22 +25,17 @@ def refused(data, place, cause):
     return data, f"refused 20 BadDvi {place} {cause}\n".encode()
 
 
-def accepted(data, marks):
+def accepted(file, marks):
     """A file of one page, and its listing."""
-    return data, listed([(ZERO_COUNTS, marks)])
+    return file.data, listed_page(marks)
 
 
 def work(*files):
     """Lists files with the metric file `tiny`. Each has the expected output."""
-    names = {f"{at}.dvi": it for at, it in enumerate(files, 1)}
-    runs = [
-        Run(
-            ("list", name, "tiny=tiny.tfm"),
-            stdout=(printed,),
-            status=int(printed.startswith(b"refused")),
-        )
-        for name, (_, printed) in names.items()
-    ]
+    names, runs = {f"{at}.dvi": it for at, it in enumerate(files, 1)}, []
+    for name, (_, printed) in names.items():
+        status = int(printed.startswith(b"refused"))
+        runs.append(Run(("list", name, "tiny=tiny.tfm"), stdout=(printed,), status=status))
     return Work({"tiny.tfm": TINY, **{name: data for name, (data, _) in names.items()}}, runs)
 
 
@@ -54,49 +43,28 @@ def each_special():
     """xxx1 to xxx4, each with those lengths of a list up to 70,000 that it can have; the texts have
     all bytes in turn. A special moves nothing. And one of three bytes whose line was worked out by
     hand."""
-    lengths = {
-        1: (0, 1, 255),
-        2: (0, 1, 255, 256),
-        3: (0, 1, 255, 256, 70000),
-        4: (0, 1, 255, 256, 70000),
-    }
-    texts = [
-        (bytes(it % 256 for it in range(length)), size)
-        for size, all_lengths in lengths.items()
-        for length in all_lengths
-    ]
-    files = [
-        accepted(
-            dvi_file([Page([xxx(text, size), put_rule(1, 1)])], 0, 0).data,
-            [special_mark(0, 0, text), rule_mark(0, 0, 1, 1)],
-        )
-        for text, size in texts
-    ]
-    by_hand = dvi_file([Page([bytes.fromhex("ef03615c00")])], 0, 0)
-    assert by_hand.data[BOP] == 0x8B and by_hand.data[BODY : BODY + 6] == bytes.fromhex(
-        "ef03615c008c"
-    )
-    return work(accepted(by_hand.data, ["special 0 0 a\\5c\\00"]), *files)
+    lengths = (0, 1, 255, 256, 70000)
+    by_hand = page_file([bytes.fromhex("ef03615c00")])
+    assert by_hand.data[BOP] == 0x8B
+    assert by_hand.data[BODY : BODY + 6] == bytes.fromhex("ef03615c008c")
+    files = [accepted(by_hand, ["special 0 0 a\\5c\\00"])]
+    for size, count in ((1, 3), (2, 4), (3, 5), (4, 5)):
+        for length in lengths[:count]:
+            text = bytes(it % 256 for it in range(length))
+            marks = [special_mark(0, 0, text), rule_mark(0, 0, 1, 1)]
+            files.append(accepted(page_file([xxx(text, size), put_rule(1, 1)]), marks))
+    return work(*files)
 
 
 def specials_in_groups():
     """A special after movements to the right and down, in a group; one after the group, whose place
     is that of the push; and two on another page."""
     first = [right(7), [down(3), xxx(b"a\\b", 1), right(-9), xxx(b" ", 2)], xxx(b"", 1)]
-    marks = ["special 7 3 a\\5cb", "special -2 3  ", "special 7 0 "]
     second = [xxx(bytes([10, 13, 32, 126, 127, 255]), 1), xxx(b"z", 4)]
+    marks = ["special 7 3 a\\5cb", "special -2 3  ", "special 7 0 "]
+    more = ["special 0 0 \\0a\\0d ~\\7f\\ff", "special 0 0 z"]
     file = dvi_file([Page(first), Page(second)], 0, 0)
-    return work(
-        (
-            file.data,
-            listed(
-                [
-                    (ZERO_COUNTS, marks),
-                    (ZERO_COUNTS, ["special 0 0 \\0a\\0d ~\\7f\\ff", "special 0 0 z"]),
-                ]
-            ),
-        )
-    )
+    return work((file.data, listed([(ZERO_COUNTS, marks), (ZERO_COUNTS, more)])))
 
 
 def specials_between_pages():
@@ -110,11 +78,9 @@ def specials_between_pages():
 def painted_specials():
     """A page of a rule that is one pixel, and the same page with specials: one bitmap."""
     rule = put_rule(1, 1)
-    pages = [
-        [rule],
-        [xxx(b"black", 1), rule, right(PT), xxx(bytes(70000), 3), [down(PT), xxx(b"", 1)]],
-    ]
-    files = {f"{at}.dvi": dvi_file([Page(body)], 0, 0).data for at, body in enumerate(pages, 1)}
+    specials = [xxx(bytes(70000), 3), [down(PT), xxx(b"", 1)]]
+    pages = [[rule], [xxx(b"black", 1), rule, right(PT), *specials]]
+    files = {f"{at}.dvi": page_file(body).data for at, body in enumerate(pages, 1)}
     words = ("paint", "--page", "1", "--dpi", "72", "--width", "3", "--height", "2")
     return Work(files, [Run((*words, name), stdout=(b"P1\n3 2\n100\n000\n",)) for name in files])
 
@@ -122,12 +88,8 @@ def painted_specials():
 def long_specials():
     """xxx4 with lengths of 2^31 and more: the special reaches past post."""
     lengths = (1 << 31, (1 << 31) + 1, (1 << 32) - 1)
-    return work(
-        *[
-            refused(dvi_file([Page([b"\xf2" + number(it, 4)])], 0, 0).data, BODY, "Truncated")
-            for it in lengths
-        ]
-    )
+    files = [page_file([b"\xf2" + number(it, 4)]) for it in lengths]
+    return work(*[refused(it.data, BODY, "Truncated") for it in files])
 
 
 def cut_names():
@@ -135,22 +97,19 @@ def cut_names():
     name takes the eop, or more bytes than there are before post; after post there are fewer before
     post_post, and a font that a page selects is then not defined there.
     """
-    in_page = dvi_file([Page([definition(TINY_10PT)])], 0, 0)
+    in_page = page_file([definition(TINY_10PT)])
     length = BODY + DEFINITION - 5
-    unused = dvi_file([Page([], new_fonts=(TINY_10PT,))], 0, 0)
-    used = dvi_file([Page([select(0), set_char(99)], new_fonts=(TINY_10PT,))], 0, 0)
-    post_size = 29  # The definition begins after the bytes of post.
-    last = post_size + DEFINITION - 5
+    unused, used = page_file([], fonts=[TINY_10PT]), page_file([select(0), C], fonts=[TINY_10PT])
+    last = POST_SIZE + DEFINITION - 5
+    cut_off = [changed(it.data, it.post + last, b"\5") for it in (unused, used)]
     return work(
-        accepted(in_page.data, []),
+        accepted(in_page, []),
         refused(changed(in_page.data, length, b"\5"), in_page.post, "Opcode"),
         refused(changed(in_page.data, length, b"\6"), BODY, "Truncated"),
-        accepted(unused.data, []),
-        refused(
-            changed(unused.data, unused.post + last, b"\5"), unused.post + post_size, "Truncated"
-        ),
-        accepted(used.data, ["glyph 0 99 0 0"]),
-        refused(changed(used.data, used.post + last, b"\5"), BODY + DEFINITION, "Font"),
+        accepted(unused, []),
+        refused(cut_off[0], unused.post + POST_SIZE, "Truncated"),
+        accepted(used, ["glyph 0 99 0 0"]),
+        refused(cut_off[1], BODY + DEFINITION, "Font"),
     )
 
 
@@ -158,11 +117,8 @@ def definitions_behind_a_bad_instruction():
     """An eop after post, before the definition of the one font. A page that selects the font is
     refused at the selection, since the definition counts as missing; otherwise the eop is what is
     wrong."""
-    files = [
-        dvi_file([Page(body, new_fonts=(TINY_10PT,))], 0, 0)
-        for body in ([select(0), set_char(99)], [])
-    ]
-    after = [it.post + 29 for it in files]  # Behind the bytes of post.
+    files = [page_file(body, fonts=[TINY_10PT]) for body in ([select(0), C], [])]
+    after = [it.post + POST_SIZE for it in files]
     used, unused = (it.data[:at] + b"\x8c" + it.data[at:] for it, at in zip(files, after))
     return work(refused(used, BODY + DEFINITION, "Font"), refused(unused, after[1], "Opcode"))
 
@@ -182,18 +138,22 @@ def pages_that_overlap():
     without a byte between, which the chain of pages allows: there the second is in the first one's
     page.
     """
-    count = dvi_file([Page([b"\xf2" + number(BOP, 4) + bytes(BOP)])], 0, 0)
     second = BODY + 1 - POINTER
+    count, touching = (
+        page_file([start + number(BOP, 4) + rest])
+        for start, rest in ((b"\xf2", bytes(BOP)), (b"\x8b" + bytes(40), b""))
+    )
     inner = changed(count.data, second, b"\x8b")
-    both = changed(changed(inner, count.post + 1, number(second, 4)), count.post + 27, number(2, 2))
-    touching = dvi_file([Page([b"\x8b" + bytes(40) + number(BOP, 4)])], 0, 0)
-    two = changed(
-        changed(touching.data, touching.post + 1, number(BODY, 4)), touching.post + 27, number(2, 2)
+    both, two = (
+        changed(changed(data, post + 1, number(last_bop, 4)), post + 27, number(2, 2))
+        for data, post, last_bop in (
+            (inner, count.post, second),
+            (touching.data, touching.post, BODY),
+        )
     )
     value = int.from_bytes(inner[BOP + 1 + 4 : BOP + 1 + 8], "big")
-    assert inner[second] == 0x8B and inner[second + POINTER : second + POINTER + 4] == number(
-        BOP, 4
-    )
+    assert inner[second] == 0x8B
+    assert inner[second + POINTER : second + POINTER + 4] == number(BOP, 4)
     counts = f"0 {value - (1 << 32)} 0 0 0 0 0 0 0 0"
     return work(
         (inner, listed([(counts, [special_mark(0, 0, bytes(BOP))])])),
@@ -205,34 +165,24 @@ def pages_that_overlap():
 def greatest_font_size():
     """A font at 2^27 - 1. TeX halves this size four times, to 2^23 - 1, and a `c` is 8/16 wide: 8 *
     (2^23 - 1)."""
-    font = Font(0, b"tiny", (1 << 27) - 1)
-    file = dvi_file([Page([select(0), set_char(99), set_char(99)], new_fonts=(font,))], 0, 0)
-    too_large = Font(0, b"tiny", 1 << 27)
-    beyond = dvi_file([Page([select(0), set_char(99)], new_fonts=(too_large,))], 0, 0)
-    return work(
-        accepted(file.data, ["glyph 0 99 0 0", f"glyph 0 99 {8 * ((1 << 23) - 1)} 0"]),
-        refused(beyond.data, BOP, "Font"),
-    )
+    file = page_file([select(0), C, C], fonts=[Font(0, b"tiny", (1 << 27) - 1)])
+    beyond = page_file([select(0), C], fonts=[Font(0, b"tiny", 1 << 27)])
+    marks = ["glyph 0 99 0 0", f"glyph 0 99 {8 * ((1 << 23) - 1)} 0"]
+    return work(accepted(file, marks), refused(beyond.data, BOP, "Font"))
 
 
 def furthest_places():
     """h and v of -2^31 and of 2^31 - 1, where rules are; and h of 2^31 - 1 after a glyph, which is
     5pt wide, and one more."""
-    rule = put_rule(1, 1)
-    ways = [(right, GREATEST), (right, LEAST), (down, GREATEST), (down, LEAST)]
-    marks = [
-        rule_mark(GREATEST, 0, 1, 1),
-        rule_mark(LEAST, 0, 1, 1),
-        rule_mark(0, GREATEST, 1, 1),
-        rule_mark(0, LEAST, 1, 1),
-    ]
-    rules = dvi_file([Page([[move(by), rule] for move, by in ways])], 0, 0)
-    last, wide = GREATEST - 5 * PT, [right(GREATEST - 5 * PT), select(0), set_char(99)]
-    glyph = dvi_file([Page(wide, new_fonts=(TINY_10PT,))], 0, 0)
-    beyond = dvi_file([Page([*wide, right(1)], new_fonts=(TINY_10PT,))], 0, 0)
+    places = ((GREATEST, 0), (LEAST, 0), (0, GREATEST), (0, LEAST))
+    moves = [right(h) if h else down(v) for h, v in places]
+    rules = page_file([[it, put_rule(1, 1)] for it in moves])
+    last = GREATEST - 5 * PT
+    wide = [right(last), select(0), C]
+    beyond = page_file([*wide, right(1)], fonts=[TINY_10PT])
     return work(
-        accepted(rules.data, marks),
-        accepted(glyph.data, [f"glyph 0 99 {last} 0"]),
+        accepted(rules, [rule_mark(*it, 1, 1) for it in places]),
+        accepted(page_file(wide, fonts=[TINY_10PT]), [f"glyph 0 99 {last} 0"]),
         refused(beyond.data, BODY + DEFINITION + 5 + 1 + 1, "Range"),
     )
 

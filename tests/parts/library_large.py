@@ -10,9 +10,10 @@ from common.library_inputs import Input, Printed, Room
 from common.part import Part, in_turn
 from common.texts import first_difference, last_lines
 from models import large_inputs
-from models.dvi_writer import Font, Page, definition, down, dvi_file, number, put_rule, right
-from models.dvi_writer import select, set_char
-from models.large_inputs import PT, TINY, ZERO_COUNTS, listed
+from models.dvi_writer import Font, Page, changed, definition, down, dvi_file, number, page_file
+from models.dvi_writer import put_rule, right, select, set_char
+from models.large_inputs import C, FONTS_OF_RULES, NO_PAGES, PT, SHIPPED, TINY, ended, listed_page
+from models.large_inputs import rows_of, rules_file, summary, talk
 from parts.library_calls import made_in_c, made_in_python, differs, printed
 
 TITLE = "the library for C: many fonts and definitions, large files, long answers, refused files"
@@ -48,26 +49,27 @@ def calls_of_work(make):
     scripts = {it.stdin for it in work.runs if it.words[:1] == ("typeset",)}
     made = {name: data for it in work.runs for name, data in it.made.items() if data}
     assert len(scripts) == 1, "one script"
-    return Calls(
-        {**work.files, **made, "script": scripts.pop()},
-        [call for run in work.runs for call in calls_of_run(run)],
-    )
+    calls = [call for run in work.runs for call in calls_of_run(run)]
+    return Calls({**work.files, **made, "script": scripts.pop()}, calls)
 
 
-def rows_of(fonts):
-    """The lines that are printed for the fonts of a file."""
-    return b"".join(
-        b"%d %d %s %d %d\n"
-        % (it.number, it.size, it.name, it.design_size, it.check_sum % (1 << 32))
-        for it in fonts
-    )
+def fonts_call(name, fonts):
+    """The call for the fonts of a file, with the lines that are printed for them."""
+    numbers = [(it.number, it.size, it.name, it.design_size, it.check_sum) for it in fonts]
+    lines = [b"%d %d %s %d %d\n" % (*it, check_sum % (1 << 32)) for *it, check_sum in numbers]
+    return ["fonts", name], (0, b"".join(lines))
+
+
+def refusal(place, cause):
+    """The line of the refusal of a file."""
+    return f"refused 20 BadDvi {place} {cause}\n".encode()
 
 
 def all_slots():
     """256 fonts in 256 slots: the file has 256 definitions, as many as boxglue can write."""
     calls = calls_of_work(large_inputs.all_slots)
     fonts = [Font(slot, f"f{slot}".encode(), 655360 + 2 * slot) for slot in range(256)]
-    return Calls(calls.files, [*calls.calls, (["fonts", "out.dvi"], (0, rows_of(fonts)))])
+    return Calls(calls.files, [*calls.calls, fonts_call("out.dvi", fonts)])
 
 
 def definitions_of_another_program():
@@ -75,67 +77,38 @@ def definitions_of_another_program():
     has another length, and of the last one no byte."""
     names = [b"n%d" % at * (1 + at % 3) for at in range(999)] + [b""]
     fonts = [Font(100 + at, name, 1 + at) for at, name in enumerate(names)]
-    file = dvi_file([Page([put_rule(1, 1)], new_fonts=tuple(fonts))], 0, 0)
+    file = page_file([put_rule(1, 1)], fonts=fonts)
     assert len(file.data) < 1 << 16
-    return Calls(
-        {"f.dvi": file.data},
-        [
-            (["fonts", "f.dvi"], (0, rows_of(fonts))),
-            (["list", "f.dvi"], Printed(0, listed([(ZERO_COUNTS, ["rule 0 0 1 1"])]))),
-        ],
-    )
+    listing = (["list", "f.dvi"], Printed(0, listed_page(["rule 0 0 1 1"])))
+    return Calls({"f.dvi": file.data}, [fonts_call("f.dvi", fonts), listing])
 
 
 def three_hundred_fonts():
     """300 fonts are handed in, of which 299 have no bytes: the script uses the last one, and so
     does its file. A font after 300 of other names is found too."""
     words = [*(f"n{at}=none.tfm" for at in range(299)), "n299=tiny.tfm"]
-    lines = ["font 7 n299", "use 7", "hbox into 0", "text c", "end", "ship 0"]
-    file = dvi_file(
-        [Page([down(5 * PT), select(7), set_char(99)], new_fonts=(Font(7, b"n299"),))],
-        5 * PT,
-        5 * PT,
-    )
-    replies = [
-        *"ok; ok; ok; added 1 missing 0".split("; "),
-        large_inputs.packed(5 * PT, 5 * PT, 0),
-        "shipped 1",
+    text, box = ("text c", "added 1 missing 0"), ended(5 * PT, 5 * PT)
+    rows = rows_of("font 7 n299; use 7; hbox into 0", text, box, SHIPPED)
+    file = page_file([down(5 * PT), select(7), C], 5 * PT, 5 * PT, [Font(7, b"n299")])
+    script, printed = talk(rows, summary(1, file))
+    calls = (["run"], ["job", "0"], ["job", "2"])
+    runs = [([*call, "script", *words], Printed(0, printed, file.data)) for call in calls]
+    marks = Printed(0, listed_page([f"glyph 7 99 0 {5 * PT}"]))
+    bad = ["list", "f.dvi", *words[:-1], "n299=none.tfm"]
+    runs += [
+        (["list", "f.dvi", *words], marks),
+        (["paint", "1", "72", "2", "1", "f.dvi", *words], Printed(0, b"P1\n2 1\n00\n")),
+        (bad, Printed(1, b"refused 5 BadTfm TooShort\n")),
     ]
-    ran = Printed(0, large_inputs.answers(replies, large_inputs.summary(1, file)), file.data)
-    runs = [([*call, "script", *words], ran) for call in (["run"], ["job", "0"], ["job", "2"])]
-    paint = ["paint", "1", "72", "2", "1", "f.dvi", *words]
-    marks = Printed(0, listed([(ZERO_COUNTS, [f"glyph 7 99 0 {5 * PT}"])]))
-    bad = (
-        ["list", "f.dvi", *words[:-1], "n299=none.tfm"],
-        Printed(1, b"refused 5 BadTfm TooShort\n"),
-    )
-    return Calls(
-        {
-            "script": large_inputs.script(lines),
-            "none.tfm": b"",
-            "tiny.tfm": TINY,
-            "f.dvi": file.data,
-        },
-        [*runs, (["list", "f.dvi", *words], marks), (paint, Printed(0, b"P1\n2 1\n00\n")), bad],
-    )
+    files = {"script": script, "none.tfm": b"", "tiny.tfm": TINY, "f.dvi": file.data}
+    return Calls(files, runs)
 
 
 def two_pages():
     """A file of two pages and two fonts, and the place of its last byte that is not 223."""
-    file = dvi_file(
-        [
-            Page([select(0), set_char(99), right(PT), [put_rule(1, 1)]], new_fonts=(FIRST, SECOND)),
-            Page([]),
-        ],
-        0,
-        0,
-    )
+    first = Page([select(0), C, right(PT), [put_rule(1, 1)]], new_fonts=(FIRST, SECOND))
+    file = dvi_file([first, Page([])], 0, 0)
     return file.data, file, len(file.data.rstrip(b"\xdf")) - 1
-
-
-def changed(data, at, bytes_there):
-    """The bytes of a file, with some replaced at a place."""
-    return data[:at] + bytes_there + data[at + len(bytes_there) :]
 
 
 def files_that_are_refused():
@@ -174,13 +147,10 @@ def files_that_are_refused():
 def refused_files():
     """Each of them, with its line."""
     found = files_that_are_refused()
-    return Calls(
-        {f"{at}.dvi": data for at, (data, _, _) in enumerate(found.values())},
-        [
-            (["fonts", f"{at}.dvi"], (1, b"refused 20 BadDvi %d %s\n" % (place, cause.encode())))
-            for at, (_, place, cause) in enumerate(found.values())
-        ],
-    )
+    calls = [
+        (["fonts", f"{at}.dvi"], (1, refusal(*it))) for at, (_, *it) in enumerate(found.values())
+    ]
+    return Calls({f"{at}.dvi": data for at, (data, _, _) in enumerate(found.values())}, calls)
 
 
 def broken_pages():
@@ -188,29 +158,19 @@ def broken_pages():
     data, file, _ = two_pages()
     definitions, body = file.data.index(definition(FIRST)), file.data.index(BOP) + 45
     moved = body + 2
-    assert data[body:moved] == select(0) + set_char(99) and data[moved + 4 : moved + 5] == PUSH
+    assert data[body:moved] == select(0) + C and data[moved + 4 : moved + 5] == PUSH
+    put = lambda place, data_there: changed(data, place, data_there)
+    another, ended_at = put(definitions + 6, number(11 * PT, 4)), file.page_ends[0]
     return {
-        "an instruction that there is not": (changed(data, body, b"\xfa"), body, "Opcode"),
-        "a pre in a page": (changed(data, body, PRE), body, "Opcode"),
-        "a pop without a push": (changed(data, body, POP), body, "Stack"),
-        "a push too many": (changed(data, moved, PUSH + 3 * NOP), moved + 4, "Stack"),
-        "a character without a font": (changed(data, body, NOP), body + 1, "Glyph"),
-        "a character that the font has not": (
-            changed(data, body + 1, set_char(1)),
-            body + 1,
-            "Glyph",
-        ),
-        "a font that is not defined": (changed(data, body, select(9)), body, "Font"),
-        "another definition before the page": (
-            changed(data, definitions + 6, number(11 * PT, 4)),
-            file.post + POST_SIZE,
-            "Font",
-        ),
-        "no end of a page": (
-            changed(data, file.page_ends[0] - 1, NOP),
-            file.page_ends[0],
-            "Opcode",
-        ),
+        "an instruction that there is not": (put(body, b"\xfa"), body, "Opcode"),
+        "a pre in a page": (put(body, PRE), body, "Opcode"),
+        "a pop without a push": (put(body, POP), body, "Stack"),
+        "a push too many": (put(moved, PUSH + 3 * NOP), moved + 4, "Stack"),
+        "a character without a font": (put(body, NOP), body + 1, "Glyph"),
+        "a character that the font has not": (put(body + 1, set_char(1)), body + 1, "Glyph"),
+        "a font that is not defined": (put(body, select(9)), body, "Font"),
+        "another definition before the page": (another, file.post + POST_SIZE, "Font"),
+        "no end of a page": (put(ended_at - 1, NOP), ended_at, "Opcode"),
     }
 
 
@@ -218,21 +178,14 @@ def files_with_broken_pages():
     """Each of them, and the whole file, has its fonts: the call does not read the pages. A listing
     refuses all but the whole file."""
     whole, found = two_pages()[0], broken_pages()
-    files = {
-        "whole.dvi": whole,
-        **{f"{at}.dvi": data for at, (data, _, _) in enumerate(found.values())},
-    }
+    files = {"whole.dvi": whole}
+    files |= {f"{at}.dvi": data for at, (data, _, _) in enumerate(found.values())}
     lists = [
-        (
-            ["list", f"{at}.dvi", "tiny=tiny.tfm"],
-            Printed(1, b"refused 20 BadDvi %d %s\n" % (place, cause.encode())),
-        )
-        for at, (_, place, cause) in enumerate(found.values())
+        (["list", f"{at}.dvi", "tiny=tiny.tfm"], Printed(1, refusal(*it)))
+        for at, (_, *it) in enumerate(found.values())
     ]
-    return Calls(
-        {"tiny.tfm": TINY, **files},
-        [*((["fonts", name], (0, rows_of([FIRST, SECOND]))) for name in files), *lists],
-    )
+    fonts = [fonts_call(name, [FIRST, SECOND]) for name in files]
+    return Calls({"tiny.tfm": TINY, **files}, fonts + lists)
 
 
 def large_files():
@@ -241,57 +194,43 @@ def large_files():
     calls = calls_of_work(large_inputs.page_of_rules)
     typeset, listing, _ = large_inputs.page_of_instructions().runs
     marks = [
-        (["marks", "out.dvi"], (0, listed([(ZERO_COUNTS, large_inputs.rules_marks())]))),
+        (["marks", "out.dvi"], (0, listed_page(large_inputs.rules_marks()))),
         (["marks", "more.dvi"], (0, b"".join(listing.stdout))),
     ]
     checks = [(["check", name], (0, b"")) for name in ("out.dvi", "more.dvi")]
-    return Calls(
-        {**calls.files, "more.dvi": typeset.made["out.dvi"]}, [*calls.calls, *marks, *checks]
-    )
+    files = {**calls.files, "more.dvi": typeset.made["out.dvi"]}
+    return Calls(files, [*calls.calls, *marks, *checks])
 
 
 def fonts_of_large_file():
     """The fonts of a file above 64 KiB."""
-    return Calls(
-        {"f.dvi": large_inputs.rules_and_fonts().data},
-        [(["fonts", "f.dvi"], (0, rows_of(large_inputs.FONTS_OF_RULES)))],
-    )
+    data = rules_file(*FONTS_OF_RULES).data
+    return Calls({"f.dvi": data}, [fonts_call("f.dvi", FONTS_OF_RULES)])
 
 
 def large_broken_files():
     """A file whose last rule is no instruction, and one with a bad definition of a font after post:
     both places are above 65,536."""
-    file = large_inputs.rules_and_fonts()
+    file = rules_file(*FONTS_OF_RULES)
     last_rule = file.page_ends[0] - 1 - len(put_rule(PT, PT))
     assert last_rule > 1 << 16 and file.data[last_rule:-1].startswith(put_rule(PT, PT) + EOP)
     bad_font, place = large_inputs.with_bad_font(file)
-    lines = {
-        "page.dvi": b"refused 20 BadDvi %d Opcode\n" % last_rule,
-        "font.dvi": b"refused 20 BadDvi %d Font\n" % place,
-    }
-    calls = [
-        call
-        for name, line in lines.items()
-        for call in (
-            (["marks", name], (1, line)),
-            (["check", name], (1, line)),
-            (["list", name], Printed(1, line)),
-            ([*"paint 1 72 2 1".split(), name], Printed(1, line)),
-        )
-    ]
-    return Calls(
-        {"page.dvi": changed(file.data, last_rule, b"\xfa"), "font.dvi": bad_font},
-        [*calls, (["fonts", "font.dvi"], (1, lines["font.dvi"]))],
-    )
+    lines = {"page.dvi": refusal(last_rule, "Opcode"), "font.dvi": refusal(place, "Font")}
+    calls = []
+    for name, line in lines.items():
+        calls += [([word, name], (1, line)) for word in ("marks", "check")]
+        calls += [([*word.split(), name], Printed(1, line)) for word in ("list", "paint 1 72 2 1")]
+    files = {"page.dvi": changed(file.data, last_rule, b"\xfa"), "font.dvi": bad_font}
+    return Calls(files, [*calls, (["fonts", "font.dvi"], (1, lines["font.dvi"]))])
 
 
 def many_replies():
     """66,000 replies, the last of them a refusal, by one call and by a job's. From C they are
     texts, and from Python numbers of which texts are made."""
-    count = 66_000
-    text = large_inputs.answers(["ok"] * (count - 1) + ["refused 21 VoidBox"], "pages 0 bytes 0")
+    rows = [*rows_of("void 0") * 65_999, ("ship 0", "refused 21 VoidBox")]
+    script, text = talk(rows, NO_PAGES)
     calls = [(words, Printed(1, text)) for words in (["run", "script"], ["job", "0", "script"])]
-    return Calls({"script": large_inputs.script(["void 0"] * (count - 1) + ["ship 0"])}, calls)
+    return Calls({"script": script}, calls)
 
 
 CASES = {
@@ -314,11 +253,9 @@ def status_and_lines(ran):
     has the number of the fonts and the size of their names or of the refusal; or the units of the
     file."""
     line, _, rest = ran.stdout.partition(b"\n")
-    return (
-        f"the status is {ran.returncode}: {last_lines(ran.stderr)}"
-        if ran.returncode
-        else (int(line.split()[0]), rest)
-    )
+    if ran.returncode:
+        return f"the status is {ran.returncode}: {last_lines(ran.stderr)}"
+    return int(line.split()[0]), rest
 
 
 def call_wrong(ran, words, wanted):
@@ -340,36 +277,20 @@ def outcome(make_calls, make, root, archive=None, *_programs):
         for name, data in calls.files.items():
             room.write(name, data)
         made = make_calls(root, archive, room, [words for words, _ in calls.calls])
-        return next(
-            filter(
-                None,
-                (
-                    call_wrong(ran, words, wanted)
-                    for ran, (words, wanted) in zip(made, calls.calls, strict=True)
-                ),
-            ),
-            None,
-        )
+        pairs = zip(made, calls.calls, strict=True)
+        found = [call_wrong(ran, words, wanted) for ran, (words, wanted) in pairs]
+    return next(filter(None, found), None)
 
 
 def cases(make_calls, programs, root):
     """The cases, by name."""
-    return [
-        (name, partial(outcome, make_calls, make, root, *programs)) for name, make in CASES.items()
-    ]
+    for name, make in CASES.items():
+        yield name, partial(outcome, make_calls, make, root, *programs)
 
 
 def parts(_root):
     """A part for each language."""
-    for name, language, make_calls in (
-        ("library_c_large", "C", made_in_c),
-        ("library_python_large", "Python", made_in_python),
-    ):
-        yield Part(
-            name,
-            f"{TITLE}, from {language}",
-            partial(cases, make_calls),
-            "library",
-            True,
-            split=in_turn(4),
-        )
+    for language, make_calls in (("C", made_in_c), ("Python", made_in_python)):
+        name, title = f"library_{language.lower()}_large", f"{TITLE}, from {language}"
+        cases_of = partial(cases, make_calls)
+        yield Part(name, title, cases_of, "library", True, split=in_turn(4))

@@ -1,5 +1,7 @@
 """Large inputs, and the edges of input and output. Large inputs are made when a case is run
 (large_inputs.py); nothing large is in the repository."""
+from functools import partial
+
 from common.long_runs import done
 from common.part import in_turn
 from models import large_inputs
@@ -10,9 +12,9 @@ SPLIT = in_turn(4)
 WEIGHT = 2
 
 WORKS = {
-    "a_script_of_300_kilobytes": large_inputs.script_from_a_file,
-    "the_same_line_by_line": large_inputs.script_line_by_line,
-    "the_same_byte_by_byte": large_inputs.script_byte_by_byte,
+    "a_script_of_300_kilobytes": large_inputs.long_script,
+    "the_same_line_by_line": partial(large_inputs.long_script, "lines"),
+    "the_same_byte_by_byte": partial(large_inputs.long_script, "bytes"),
     "a_page_of_8000_rules": large_inputs.page_of_rules,
     "answers_above_2_mebibytes": large_inputs.long_answers,
     "a_page_of_160005_instructions": large_inputs.page_of_instructions,

@@ -12,29 +12,23 @@ from common.case_folder import read
 from common.texts import blocks, first_difference
 from models.dvi_writer import DviFile, Font, Page, down, dvi_file, select, set_char, set_rule
 from models.growth_kinds import FAILED, OVER
-from models.large_inputs import hexadecimal, packed, summary
+from models.large_inputs import PT, ended, hexadecimal, rows_of, summary
 
 TITLE = "the cases of rows_scripts on devices that fail, by a model of the devices and the tests' own DVI writer"
-
-PT = 65536
 
 
 @dataclass(frozen=True)
 class Script:
     """A script: pairs of a command and its answer, and the file that it makes."""
 
-    rows: tuple
+    rows: list
     file: DviFile
 
 
 def page_rows(item, answer, width, height, number):
     """The commands that ship a box of one item as this page, and their answers."""
-    return (
-        ("hbox into 0", "ok"),
-        (item, answer),
-        ("end", packed(width * PT, height * PT, 0)),
-        ("ship 0", f"shipped {number}"),
-    )
+    shipped = ("ship 0", f"shipped {number}")
+    return rows_of("hbox into 0", (item, answer), ended(width * PT, height * PT), shipped)
 
 
 def rule_page(width, height):
@@ -48,16 +42,16 @@ def glyph_page(*new_fonts):
 
 
 ONE_RULE = page_rows("rule 1pt 1pt 0pt", "ok", 1, 1, 1)
-FONT = ("font 0 tiny", "ok"), ("use 0", "ok")
+FONT = rows_of("font 0 tiny; use 0")
 GLYPHS = [page_rows("char 97", "added 1 missing 0", 5, 5, number) for number in (1, 3)]
 SCRIPTS = (
     Script(ONE_RULE, dvi_file([rule_page(1, 1)], PT, PT)),
     Script(
-        (*ONE_RULE, *page_rows("rule 2pt 3pt 0pt", "ok", 2, 3, 2)),
+        [*ONE_RULE, *page_rows("rule 2pt 3pt 0pt", "ok", 2, 3, 2)],
         dvi_file([rule_page(1, 1), rule_page(2, 3)], 3 * PT, 2 * PT),
     ),
     Script(
-        (*FONT, *GLYPHS[0], *page_rows("rule 1pt 1pt 0pt", "ok", 1, 1, 2), *GLYPHS[1]),
+        [*FONT, *GLYPHS[0], *page_rows("rule 1pt 1pt 0pt", "ok", 1, 1, 2), *GLYPHS[1]],
         dvi_file([glyph_page(Font(0, b"tiny")), rule_page(1, 1), glyph_page()], 5 * PT, 5 * PT),
     ),
 )
@@ -112,13 +106,8 @@ def run(script, device):
         fails = command == "ship 0" and not is_over and not is_sent(device, sends.pop(0))
         lines.append(f"{number}: {OVER if is_over else FAILED if fails else answer}\n")
         is_over = is_over or fails
-    end = (
-        OVER
-        if is_over
-        else summary(len(script.file.page_ends), script.file)
-        if is_sent(device, sends.pop(0))
-        else FAILED
-    )
+    whole = summary(len(script.file.page_ends), script.file)
+    end = OVER if is_over else whole if is_sent(device, sends.pop(0)) else FAILED
     return "".join([*lines, f"end: {end}\n"]), not end.startswith("refused")
 
 
@@ -130,9 +119,8 @@ def verdict(accepted):
 def run_text(script, device, fuse):
     """The output for a run on a device, of which `fuse` is the inner one."""
     answers, accepted = run(script, device)
-    return (
-        f"{answers}{hexadecimal(fuse.data).decode()}failures {fuse.failures}\n{verdict(accepted)}\n"
-    )
+    data = hexadecimal(fuse.data).decode()
+    return f"{answers}{data}failures {fuse.failures}\n{verdict(accepted)}\n"
 
 
 def rerun_text(script, fuse, words):
