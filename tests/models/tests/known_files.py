@@ -1,5 +1,7 @@
 """The DVI writer of the tests, compared with files and bodies whose bytes are known, as those of
 docs/FORMATS.md, section 8. It runs no program."""
+import re
+
 from models.dvi_writer import Font, Page, Registers, down, dvi_file, pruned, put_rule, right, select
 from models.dvi_writer import set_char, set_rule, special, spelled
 
@@ -10,153 +12,59 @@ RULE = set_rule(PT, PT)
 ONE_RULE = [down(PT), RULE]
 C, B = set_char(99), set_char(98)
 AT_10PT, AT_20PT = Font(0, b"tiny"), Font(1, b"tiny", 20 * PT)
-
-# For a file: its pages, the greatest height plus depth and width; and the expected bytes by their
-# places, place of post, and length.
+GLYPH = Page([down(5 * PT), select(0), C], new_fonts=(AT_10PT,))
+NESTED = [down(10 * PT), select(0), C, [select(1), B], right(10 * PT), C]
+NESTED_PAGE = Page(NESTED, new_fonts=(AT_10PT, AT_20PT))
+LOW_RULE = put_rule(5 * PT, 10 * PT)
+LOW_RULES = [down(5 * PT), LOW_RULE, down(15 * PT), LOW_RULE]
+KERNS = [down(PT), RULE, *[right(2 * PT), RULE] * 3]
+SPECIALS = [special(bytes(255)), special(bytes(256))]
+SHIFTED = [[down(3 * PT), RULE], [], right(4 * PT), *ONE_RULE]
+LINES = (([select(0)], 0x3C000), ([], 0x3C000), ([], 0x32000))
+THREE_LINES = [
+    [down((5 + 12 * at) * PT), *first, C, right(amount), C]
+    for at, (first, amount) in enumerate(LINES)
+]
+# For a file: its pages, the greatest height plus depth and width, the place of post, and the length.
 FILES = {
-    "one_rule": (
-        [Page(ONE_RULE)],
-        PT,
-        PT,
-        {
-            0: "f7 02 018392c0 1c3b0000 000003e8 00",
-            15: "8b" + "00000000" * 10 + "ffffffff 9f010000 84 00010000 00010000 8c",
-            74: "f8 0000000f 018392c0 1c3b0000 000003e8 00010000 00010000 0000 0001 f9 0000004a 02 dfdfdfdfdfdfdf",
-        },
-        74,
-        116,
-    ),
-    "four_rules_with_kerns": (
-        [Page([down(PT), RULE, *[right(2 * PT), RULE] * 3])],
-        PT,
-        10 * PT,
-        {
-            60: "9f010000 840001000000010000 96020000 840001000000010000 93 840001000000010000 93 840001000000010000 8c",
-        },
-        107,
-        148,
-    ),
-    "two_pages": (
-        [Page(ONE_RULE), Page(ONE_RULE, (7, *[0] * 9))],
-        PT,
-        PT,
-        {
-            74: "8b 00000007" + "00000000" * 9 + "0000000f 9f010000",
-            133: "f8 0000004a",
-            160: "0002",
-        },
-        133,
-        172,
-    ),
-    "two_rules_in_a_vbox": (
-        [Page([down(5 * PT), put_rule(5 * PT, 10 * PT), down(15 * PT), put_rule(5 * PT, 10 * PT)])],
-        20 * PT,
-        10 * PT,
-        {
-            60: "9f 050000 89 00050000 000a0000 9f 0f0000 89 00050000 000a0000 8c",
-            104: "00140000 000a0000",
-        },
-        87,
-        128,
-    ),
-    "one_glyph": (
-        [Page([down(5 * PT), select(0), C], new_fonts=(AT_10PT,))],
-        5 * PT,
-        5 * PT,
-        {
-            15: "f3 00 00000000 000a0000 000a0000 00 04 74696e79 8b"
-            + "00000000" * 10
-            + "ffffffff 9f 050000 ab 63 8c",
-            87: "f8 00000023 018392c0 1c3b0000 000003e8 00050000 00050000 0000 0001 f3 00 00000000 000a0000 000a0000 00 04 74696e79 f9 00000057 02 dfdfdfdfdfdf",
-        },
-        87,
-        148,
-    ),
-    "fonts_in_nested_boxes": (
-        [
-            Page(
-                [down(10 * PT), select(0), C, [select(1), B], right(10 * PT), C],
-                new_fonts=(AT_10PT, AT_20PT),
-            )
-        ],
-        15 * PT,
-        25 * PT,
-        {
-            100: "9f0a0000 ab 63 8d ac 62 8e 910a0000 63 8c",
-            141: "0001",
-        },
-        116,
-        196,
-    ),
-    "a_box_that_shows_nothing": (
-        [Page([[], right(PT), down(PT), RULE])],
-        PT,
-        2 * PT,
-        {60: "91010000 9f010000 840001000000010000 8c", 103: "0000"},
-        78,
-        120,
-    ),
-    "an_offset": (
-        [Page([right(2 * PT), down(4 * PT), RULE])],
-        4 * PT,
-        3 * PT,
-        {
-            60: "91020000 9f040000 840001000000010000 8c",
-            95: "00040000 00030000",
-        },
-        78,
-        120,
-    ),
-    "a_special_and_a_rule": (
-        [Page([down(PT), special(b"hi"), RULE])],
-        PT,
-        PT,
-        {
-            60: "9f010000 ef02 6869 840001000000010000 8c f8 0000000f",
-            103: "0000 0001 f9 0000004e 02 dfdfdfdfdfdfdf",
-        },
-        78,
-        120,
-    ),
-    "specials_of_255_and_256_bytes": (
-        [Page([special(bytes(255)), special(bytes(256))])],
-        0,
-        0,
-        {60: "efff", 60 + 2 + 255: "f2 00000100"},
-        60 + 257 + 261 + 1,
-        620,
-    ),
-    "shifted_boxes": (
-        [Page([[down(3 * PT), RULE], [], right(4 * PT), down(PT), RULE])],
-        3 * PT,
-        5 * PT,
-        {
-            60: "8d 9f030000 840001000000010000 8e 91040000 9f010000 840001000000010000 8c",
-        },
-        93,
-        132,
-    ),
-    "three_lines": (
-        [
-            Page(
-                [
-                    [down((5 + 12 * at) * PT), *first, C, right(amount), C]
-                    for at, (first, amount) in enumerate(
-                        (([select(0)], 0x3C000), ([], 0x3C000), ([], 0x32000))
-                    )
-                ],
-                new_fonts=(AT_10PT,),
-            )
-        ],
-        29 * PT,
-        901120,
-        {
-            80: "8d 9f050000 ab 63 9103c000 63 8e 8d 9f110000 63 9103c000 63 8e 8d 9f1d0000 63 91032000 63 8e 8c",
-        },
-        118,
-        180,
-    ),
+    "one_rule": ([Page(ONE_RULE)], PT, PT, 74, 116),
+    "four_rules_with_kerns": ([Page(KERNS)], PT, 10 * PT, 107, 148),
+    "two_pages": ([Page(ONE_RULE), Page(ONE_RULE, (7, *[0] * 9))], PT, PT, 133, 172),
+    "two_rules_in_a_vbox": ([Page(LOW_RULES)], 20 * PT, 10 * PT, 87, 128),
+    "one_glyph": ([GLYPH], 5 * PT, 5 * PT, 87, 148),
+    "fonts_in_nested_boxes": ([NESTED_PAGE], 15 * PT, 25 * PT, 116, 196),
+    "a_box_that_shows_nothing": ([Page([[], right(PT), *ONE_RULE])], PT, 2 * PT, 78, 120),
+    "an_offset": ([Page([right(2 * PT), down(4 * PT), RULE])], 4 * PT, 3 * PT, 78, 120),
+    "a_special_and_a_rule": ([Page([down(PT), special(b"hi"), RULE])], PT, PT, 78, 120),
+    "specials_of_255_and_256_bytes": ([Page(SPECIALS)], 0, 0, 60 + 257 + 261 + 1, 620),
+    "shifted_boxes": ([Page(SHIFTED)], 3 * PT, 5 * PT, 93, 132),
+    "three_lines": ([Page(THREE_LINES, new_fonts=(AT_10PT,))], 29 * PT, 901120, 118, 180),
 }
+# The expected bytes of these files, by their places.
+BYTES = """
+    one_rule 0: f7 02 018392c0 1c3b0000 000003e8 00
+    one_rule 15: 8b00000000000000000000000000000000000000000000000000000000000000000000000000000000ffffffff 9f010000 84 00010000 00010000 8c
+    one_rule 74: f8 0000000f 018392c0 1c3b0000 000003e8 00010000 00010000 0000 0001 f9 0000004a 02 dfdfdfdfdfdfdf
+    four_rules_with_kerns 60: 9f010000 840001000000010000 96020000 840001000000010000 93 840001000000010000 93 840001000000010000 8c
+    two_pages 74: 8b 000000070000000000000000000000000000000000000000000000000000000000000000000000000000000f 9f010000
+    two_pages 133: f8 0000004a
+    two_pages 160: 0002
+    two_rules_in_a_vbox 60: 9f 050000 89 00050000 000a0000 9f 0f0000 89 00050000 000a0000 8c
+    two_rules_in_a_vbox 104: 00140000 000a0000
+    one_glyph 15: f3 00 00000000 000a0000 000a0000 00 04 74696e79 8b00000000000000000000000000000000000000000000000000000000000000000000000000000000ffffffff 9f 050000 ab 63 8c
+    one_glyph 87: f8 00000023 018392c0 1c3b0000 000003e8 00050000 00050000 0000 0001 f3 00 00000000 000a0000 000a0000 00 04 74696e79 f9 00000057 02 dfdfdfdfdfdf
+    fonts_in_nested_boxes 100: 9f0a0000 ab 63 8d ac 62 8e 910a0000 63 8c
+    fonts_in_nested_boxes 141: 0001
+    a_box_that_shows_nothing 60: 91010000 9f010000 840001000000010000 8c
+    a_box_that_shows_nothing 103: 0000
+    an_offset 60: 91020000 9f040000 840001000000010000 8c
+    an_offset 95: 00040000 00030000
+    a_special_and_a_rule 60: 9f010000 ef02 6869 840001000000010000 8c f8 0000000f
+    a_special_and_a_rule 103: 0000 0001 f9 0000004e 02 dfdfdfdfdfdfdf
+    specials_of_255_and_256_bytes 60: efff
+    specials_of_255_and_256_bytes 317: f2 00000100
+    shifted_boxes 60: 8d 9f030000 840001000000010000 8e 91040000 9f010000 840001000000010000 8c
+    three_lines 80: 8d 9f050000 ab 63 9103c000 63 8e 8d 9f110000 63 9103c000 63 8e 8d 9f1d0000 63 91032000 63 8e 8c"""
 
 
 def moves(text):
@@ -187,16 +95,18 @@ BODIES = {
 }
 
 
-def file_wrong(pages, height, width, parts, post, length):
-    """Returns how the file differs from the expected one, or None."""
+def file_wrong(name, pages, height, width, post, length):
+    """Returns how a file differs from the expected one, or None."""
     file = dvi_file(pages, height, width)
     if (file.post, len(file.data)) != (post, length):
         return f"post at {file.post} and not {post}, {len(file.data)} bytes and not {length}"
-    for at, text in parts.items():
+    known = re.findall(rf"(?m)^    {name} (\d+): (.*)$", BYTES)
+    for at, text in known:
         must_be = bytes.fromhex(text)
-        if file.data[at : at + len(must_be)] != must_be:
-            return f"at {at} is {file.data[at:at + len(must_be)].hex()} and not {must_be.hex()}"
-    return None
+        found = file.data[int(at) : int(at) + len(must_be)]
+        if found != must_be:
+            return f"at {at} is {found.hex()} and not {must_be.hex()}"
+    return None if known else "none of its bytes are known"
 
 
 def body_wrong(text, must_be):
@@ -209,5 +119,5 @@ def body_wrong(text, must_be):
 
 def cases(programs, root):
     """The files and the bodies, by name."""
-    files = [(name, lambda it=it: file_wrong(*it)) for name, it in FILES.items()]
+    files = [(name, lambda name=name, it=it: file_wrong(name, *it)) for name, it in FILES.items()]
     return files + [(name, lambda it=it: body_wrong(*it)) for name, it in BODIES.items()]
