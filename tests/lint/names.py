@@ -25,6 +25,10 @@ SOURCES = """
     crates/rows_scripts/stdin tests/*/*.py tests/models/tests/*.py
     bindings/python/boxglue/*.py bindings/rust/*/src/*.rs include/*.h crates.txt
     bench/items.py""".split()
+CASES = """
+    crates/*/must-fail/* crates/*/wrong-bodies/* crates/*/refused-by-tests/*
+    crates/*/needed-premises/* tests/cases/program/*""".split()
+CODE, SPECS = "crates/*/src/**/*.rt", "crates/*/specs/**/*.antt"
 # These crates know pages, and no crate of DVI.
 BEFORE_DVI = ("page_core", "job_machine", "job_lists", "job_state")
 WORD = re.compile(r"[A-Za-z_][A-Za-z_0-9]*")
@@ -59,35 +63,52 @@ STOPS = ("break_lines", "break_core", "vert_core", "boxglue_program", "job_machi
 NO_CODE = re.compile(r"(?m)\"(?:\\.|[^\"\\])*\"|//.*$|(?:^|(?<=\s))--(?:\s.*)?$")
 # Adjectives of numbers: which of two is meant. TeX says `scaled`.
 NUMBER_WORDS = ("rounded", "scaled", "signed")
-# `rt ci` knows a crate with tests by this attribute, wherever it is.
-IN_COMMENT = re.compile(r"(?m)//.*#\s*\[[^]]*\btest\b")
+# What no source of some files may have, by case: what is said of a file that has it, and the
+# pattern. `rt ci` knows a crate with tests by the test attribute, wherever it is; all arithmetic is
+# over integers; a caller in C proves no premise; and pages stand before there is DVI.
+ABSENT = {
+    "test_attributes": (
+        "a comment writes the test attribute",
+        r"(?m)//.*#\s*\[[^]]*\btest\b",
+        CODE,
+    ),
+    "float_types": ("floating-point numbers", r"\bf(32|64)\b", CODE),
+    "exports_without_premises": (
+        "an export has a premise",
+        r"(?m)^\s*requires\b",
+        "crates/boxglue_c/src/**/*.rt",
+    ),
+    "job_before_dvi": (
+        "a crate of DVI is named",
+        r"\b(dvi_\w+|ship_core|move_core)(::|\.)",
+        *[f"crates/{it}/*/**/*.{end}" for it in BEFORE_DVI for end in ("rt", "antt", "edit")],
+    ),
+}
+
+
+def paths(root, *patterns):
+    """The files of patterns, in order."""
+    return sorted(it for each in patterns for it in glob.glob(f"{root}/{each}", recursive=True))
 
 
 @functools.lru_cache(None)
 def known_words(root):
     """The words of the sources, and the names of edits, of cases and of modules."""
     words = set()
-    for pattern in SOURCES:
-        for path in glob.glob(f"{root}/{pattern}", recursive=True):
-            words.update(WORD.findall(read(path)))
-            words.add(os.path.basename(path).split(".")[0])
-    for (
-        pattern
-    ) in "crates/*/must-fail/* crates/*/wrong-bodies/* crates/*/refused-by-tests/* crates/*/needed-premises/* tests/cases/program/*".split():
-        words.update(
-            os.path.basename(it).removesuffix(".edit") for it in glob.glob(f"{root}/{pattern}")
-        )
+    for path in paths(root, *SOURCES):
+        words.update(WORD.findall(read(path)))
+        words.add(os.path.basename(path).split(".")[0])
+    for path in paths(root, *CASES):
+        words.add(os.path.basename(path).removesuffix(".edit"))
     return words
 
 
 def named(text):
     """The names in code spans of a document that have an underscore, a path or a capital letter
     inside."""
-    for code in re.findall(
-        r"`([^`\n]+)`", re.sub(r"^(```.*?^```|    .*?)$", "", text, flags=re.M | re.S)
-    ):
-        if re.fullmatch(r"[A-Za-z_0-9:]+", code):
-            yield from (it for it in WORD.findall(code) if re.search(r"_\w|[a-z][A-Z]", it))
+    text = re.sub(r"^(```.*?^```|    .*?)$", "", text, flags=re.M | re.S)
+    for code in re.findall(r"`([A-Za-z_0-9:]+)`", text):
+        yield from (it for it in WORD.findall(code) if re.search(r"_\w|[a-z][A-Z]", it))
 
 
 def documents(root, pattern):
@@ -97,16 +118,11 @@ def documents(root, pattern):
 
 def outcome(root, pattern):
     """What is wrong with the documents of a pattern."""
-    words = known_words(root)
-    wrong = {
-        path: sorted({it for it in named(read(f"{root}/{path}")) if it not in words})
-        for path in documents(root, pattern)
-    }
-    return "; ".join(
-        f"{path} names what is not in the sources: {', '.join(absent)}"
-        for path, absent in wrong.items()
-        if absent
-    ) or (None if wrong else f"no {pattern}")
+    words, wrong, found = known_words(root), [], documents(root, pattern)
+    for path in found:
+        absent = sorted({*named(read(f"{root}/{path}"))} - words)
+        wrong += [f"{path} names what is not in the sources: {', '.join(absent)}"] if absent else []
+    return "; ".join(wrong) or (None if found else f"no {pattern}")
 
 
 def misplaced(root):
@@ -115,80 +131,33 @@ def misplaced(root):
     wrong = []
     for path in sorted({it for pattern in DOCUMENTS for it in documents(root, pattern)}):
         for name, place in PLACED.findall(read(f"{root}/{path}")):
-            files = (
-                [f"{root}/{place}"]
-                if place.endswith(".antt")
-                else glob.glob(f"{root}/{place}/**/*.antt", recursive=True)
-            )
-            declared = {
-                found[1]
-                for it in files
-                if os.path.exists(it)
-                for found in map(DECLARED.match, read(it).split("\n"))
-                if found
-            }
+            lines = [
+                line
+                for it in paths(root, place, f"{place}/**/*.antt")
+                if os.path.isfile(it)
+                for line in read(it).split("\n")
+            ]
+            declared = {found[1] for found in map(DECLARED.match, lines) if found}
             wrong += [] if name in declared else [f"{path}: no {name} in {place}"]
     return "; ".join(wrong) or None
 
 
-def test_attributes(root):
-    """Sources whose comments write the test attribute: `rt ci` then looks for tests in a crate that
-    may have none, and fails."""
+def nowhere(root, what, pattern, *places):
+    """Files that have what none of them may have."""
     wrong = [
-        os.path.relpath(path, root)
-        for path in glob.glob(f"{root}/crates/*/src/**/*.rt", recursive=True)
-        if IN_COMMENT.search(read(path))
+        os.path.relpath(it, root) for it in paths(root, *places) if re.search(pattern, read(it))
     ]
-    return f"a comment writes the test attribute in {', '.join(sorted(wrong))}" if wrong else None
-
-
-def job_before_dvi(root):
-    """Files of the machine and of the job below `job_core` that name a crate of DVI: pages stand
-    before there is DVI."""
-    wrong = [
-        os.path.relpath(path, root)
-        for crate in BEFORE_DVI
-        for path in sorted(glob.glob(f"{root}/crates/{crate}/*/**/*.*", recursive=True))
-        if path.endswith((".rt", ".antt", ".edit"))
-        and re.search(r"\b(dvi_\w+|ship_core|move_core)(::|\.)", read(path))
-    ]
-    return f"a crate of DVI is named in {', '.join(wrong)}" if wrong else None
-
-
-def float_types(root):
-    """Sources that name a type of floating-point numbers: all arithmetic is over integers."""
-    wrong = [
-        os.path.relpath(path, root)
-        for path in glob.glob(f"{root}/crates/*/src/**/*.rt", recursive=True)
-        if re.search(r"\bf(32|64)\b", read(path))
-    ]
-    return f"floating-point numbers in {', '.join(sorted(wrong))}" if wrong else None
-
-
-def premises_of_exports(root):
-    """Sources of the library for C with a premise: a caller in C proves none."""
-    wrong = [
-        os.path.relpath(path, root)
-        for path in glob.glob(f"{root}/crates/boxglue_c/src/**/*.rt", recursive=True)
-        if re.search(r"(?m)^\s*requires\b", read(path))
-    ]
-    return f"an export has a premise in {', '.join(sorted(wrong))}" if wrong else None
+    return f"{what} in {', '.join(wrong)}" if wrong else None
 
 
 def long_lines(root):
     """Lines of code and of definitions above 150 columns. An attribute may be longer, since `rt
     fmt` writes it on one line, and a line with a text of more than 100 columns."""
     wrong = []
-    for path in sorted(
-        glob.glob(f"{root}/crates/*/src/**/*.rt", recursive=True)
-        + glob.glob(f"{root}/crates/*/specs/**/*.antt", recursive=True)
-    ):
+    for path in paths(root, CODE, SPECS):
         for number, line in enumerate(read(path).split("\n"), 1):
-            if (
-                len(line) > MOST_COLUMNS
-                and not line.lstrip().startswith("#[")
-                and not re.search(r'"[^"]{100,}"', line)
-            ):
+            may_be = line.lstrip().startswith("#[") or re.search(r'"[^"]{100,}"', line)
+            if len(line) > MOST_COLUMNS and not may_be:
                 wrong.append(f"{os.path.relpath(path, root)}:{number}")
     return f"lines above {MOST_COLUMNS} columns: {', '.join(wrong)}" if wrong else None
 
@@ -196,40 +165,29 @@ def long_lines(root):
 def gone(root):
     """Names in sources and definitions that have a word for which another one is in use."""
     found = {}
-    for path in sorted(
-        glob.glob(f"{root}/crates/*/specs/**/*.antt", recursive=True)
-        + glob.glob(f"{root}/crates/*/src/**/*.rt", recursive=True)
-    ):
+    for path in paths(root, CODE, SPECS):
         crate = os.path.relpath(path, root).split("/")[1]
         for name in set(WORD.findall(NO_CODE.sub("", read(path)))):
             words = {FORMS[it.lower()] for it in PARTS.findall(name) if it.lower() in FORMS}
             for word in words - ({"stop"} if crate in STOPS else set()):
                 found.setdefault((crate, name), word)
-    return (
-        "; ".join(
-            f"{crate}: {name}, in place of {word} write {GONE[word]}"
-            for (crate, name), word in sorted(found.items())
-        )
-        or None
-    )
+    wrong = [
+        f"{crate}: {name}, in place of {word} write {GONE[word]}"
+        for (crate, name), word in sorted(found.items())
+    ]
+    return "; ".join(wrong) or None
 
 
 def participles(root):
     """Definitions, functions and types that a single word names, and this is a participle. Fields
     of records, cases of data and labels of clauses are none of them."""
     found = []
-    for path in sorted(
-        glob.glob(f"{root}/crates/*/specs/**/*.antt", recursive=True)
-        + glob.glob(f"{root}/crates/*/src/**/*.rt", recursive=True)
-    ):
+    for path in paths(root, CODE, SPECS):
         lines = read(path).split("\n")
         patterns = (DECLARED,) if path.endswith(".antt") else (FUNCTION, TYPE)
         names = [it[1] for pattern in patterns for it in map(pattern.match, lines) if it]
-        found += [
-            f"{os.path.relpath(path, root)}: {it}"
-            for it in names
-            if PARTICIPLE.fullmatch(it) and it not in NUMBER_WORDS
-        ]
+        wrong = [it for it in names if PARTICIPLE.fullmatch(it) and it not in NUMBER_WORDS]
+        found += [f"{os.path.relpath(path, root)}: {it}" for it in wrong]
     return f"bare participles: {', '.join(found)}" if found else None
 
 
@@ -237,11 +195,10 @@ def participles(root):
 def contracts(root, crate):
     """The names of clauses of each function of a crate, or of all crates together."""
     found = {}
-    for path in glob.glob(f"{root}/crates/{crate}/src/**/*.rt", recursive=True):
+    for path in paths(root, f"crates/{crate}/src/**/*.rt"):
         for name, contract in re.findall(r"\bfn (\w+)\b(.*?)(?=\bfn \w|\Z)", read(path), re.S):
-            found.setdefault(name, set()).update(
-                re.findall(r"\b(?:requires|ensures) (\w+) \{", contract)
-            )
+            clauses_of = re.findall(r"\b(?:requires|ensures) (\w+) \{", contract)
+            found.setdefault(name, set()).update(clauses_of)
     return found
 
 
@@ -256,9 +213,8 @@ def lacking_clauses(known, line):
             if functions and not any(token in known[it] for it in functions):
                 yield f"{functions[-1]} {token}"
         else:
-            functions = (functions if after.strip() in (",", "") and after != "" else []) + (
-                [name] if name in known else []
-            )
+            goes_on = after and after.strip() in (",", "")
+            functions = (functions if goes_on else []) + ([name] if name in known else [])
         after = after_token
 
 
@@ -269,22 +225,13 @@ def clauses(root):
     for path in ("docs/PROVED.md", *documents(root, "crates/*/README.md")):
         known = contracts(root, path.split("/")[1] if path.startswith("crates/") else "*")
         # Where a line has "` of `", the clauses come first.
-        lines = [
-            it for it in re.findall(r"(?m)^  (`.*)$", read(f"{root}/{path}")) if "` of `" not in it
-        ]
+        lines = re.findall(r"(?m)^  (`(?:(?!` of `).)*)$", read(f"{root}/{path}"))
         wrong += [f"{path}: {it}" for line in lines for it in lacking_clauses(known, line)]
         if path.startswith("crates/"):
-            named = {
-                token.split("::")[-1]
-                for line in lines
-                for token, after in re.findall(r"`([^`]+)`([^`]*)", line)
-                if after[:1] in (";", ".")
-            }
-            wrong += [
-                f"{path}: {it}"
-                for it in sorted(named)
-                if it not in known and not any(it in clauses for clauses in known.values())
-            ]
+            pairs = [it for line in lines for it in re.findall(r"`([^`]+)`([^`]*)", line)]
+            names = {token.split("::")[-1] for token, after in pairs if after[:1] in (";", ".")}
+            absent_ones = names - {*known, *(it for clauses in known.values() for it in clauses)}
+            wrong += [f"{path}: {it}" for it in sorted(absent_ones)]
     return f"functions that are not there or lack a clause: {', '.join(wrong)}" if wrong else None
 
 
@@ -294,10 +241,8 @@ def cases(_programs, root):
         yield pattern, partial(outcome, root, pattern)
     yield "clauses", partial(clauses, root)
     yield "places_of_definitions", partial(misplaced, root)
-    yield "test_attributes", partial(test_attributes, root)
-    yield "float_types", partial(float_types, root)
-    yield "exports_without_premises", partial(premises_of_exports, root)
-    yield "job_before_dvi", partial(job_before_dvi, root)
+    for name, given in ABSENT.items():
+        yield name, partial(nowhere, root, *given)
     yield "long_lines", partial(long_lines, root)
     yield "participles", partial(participles, root)
     yield "words_that_are_gone", partial(gone, root)
