@@ -9,6 +9,7 @@ import re
 import shutil
 import sys
 import tempfile
+from collections import Counter
 from functools import partial
 
 from common.files import read
@@ -51,39 +52,38 @@ ON_MANUAL = (
     ),
 )
 # A figure that was measured, with its unit, and a link to a document that has such figures.
-FIGURE, UNITS = re.compile(
-    r"\b(\d[\d,]*(?:\.\d+)?) (s|seconds|us|ms|minutes|MB|GB|bytes|million)\b"
-), {"seconds": "s"}
+FIGURE = re.compile(r"\b(\d[\d,]*(?:\.\d+)?) (s|seconds|us|ms|minutes|MB|GB|bytes|million)\b")
+UNITS = {"seconds": "s"}
 SOURCE = re.compile(r"\]\(([^)#\s]*\b(?:SPEED|GATE)\.md)\)")
-PAGE_ON_MANUAL, PAGES = r"A page of one rule takes ([\d.]+) microseconds\.", (
-    "small_pages_ship_6000",
-    "small_pages_ship_60000",
-)
+PAGE_ON_MANUAL = r"A page of one rule takes ([\d.]+) microseconds\."
+PAGES = ("small_pages_ship_6000", "small_pages_ship_60000")
+FENCED = re.compile(r"(?ms)^```.*?^```$")
 
 
 def documents(root):
     """The paths of the documents."""
-    return sorted(
-        {
-            os.path.relpath(path, root)
-            for pattern in DOCUMENTS
-            for path in glob.glob(f"{root}/{pattern}")
-        }
-    )
+    found = {path for pattern in DOCUMENTS for path in glob.glob(f"{root}/{pattern}")}
+    return sorted(os.path.relpath(it, root) for it in found)
+
+
+def texts(root):
+    """The documents by their paths."""
+    return {path: read(f"{root}/{path}") for path in documents(root)}
+
+
+def listed(what, wrong):
+    """What is wrong, as one text, or None."""
+    return f"{what} {', '.join(wrong)}" if wrong else None
 
 
 def running_text(text):
     """The paragraphs of a document, without code, tables, headings and pictures: code inside of a
     line ends a run of words."""
-    text = re.sub(r"(?ms)^```.*?^```$", "\n\n", text)
-    text = re.sub(r"(?m)^(?:    .*|\||\s*\|.*|#.*|!\[.*)$", "\n\n", text)
+    text = re.sub(r"(?m)^(?:    .*|\||\s*\|.*|#.*|!\[.*)$", "\n\n", FENCED.sub("\n\n", text))
     text = re.sub(r"(?m)^\|.*$", "\n\n", text)
     text = re.sub(r"\]\([^)]*\)", "]", text)
-    return [
-        part
-        for paragraph in re.split(r"\n\s*\n|^\s*- ", text, flags=re.M)
-        for part in re.split(r"`[^`]*`", paragraph)
-    ]
+    paragraphs = re.split(r"\n\s*\n|^\s*- ", text, flags=re.M)
+    return [part for paragraph in paragraphs for part in re.split(r"`[^`]*`", paragraph)]
 
 
 def runs(text):
@@ -96,8 +96,8 @@ def runs(text):
 def said_twice(root):
     """Runs of words that stand in two documents."""
     found = {}
-    for path in documents(root):
-        for run in runs(read(f"{root}/{path}")):
+    for path, text in texts(root).items():
+        for run in runs(text):
             found.setdefault(run, {}).setdefault(path)
     twice = {}
     for run, paths in found.items():
@@ -110,45 +110,34 @@ def links(root):
     """Links to files that are not there, and names of documents that are neither in docs/ nor
     beside the text. A link gives the path of any other document."""
     wrong = []
-    for path in documents(root):
-        text, folder = re.sub(r"(?ms)^```.*?^```$", "", read(f"{root}/{path}")), os.path.dirname(
-            path
-        )
+    for path, text in texts(root).items():
+        text, folder = FENCED.sub("", text), os.path.dirname(path)
         places = {it: (f"{folder}/{it}",) for it in re.findall(LINK, text) if "://" not in it}
-        names = {
-            it: (f"docs/{it}", f"{folder}/{it}", it)
-            for it in re.findall(r"(?<![\w/.])[A-Z]{2,}\.md\b", re.sub(LINK, "", text))
-        }
-        wrong += [
-            f"{path}: {it}"
-            for it, paths in {**names, **places}.items()
-            if not any(os.path.exists(os.path.normpath(f"{root}/{its}")) for its in paths)
-        ]
-    return f"no file for {', '.join(wrong)}" if wrong else None
+        for it in re.findall(r"(?<![\w/.])[A-Z]{2,}\.md\b", re.sub(LINK, "", text)):
+            places.setdefault(it, (f"docs/{it}", f"{folder}/{it}", it))
+        for it, its in places.items():
+            if not any(os.path.exists(os.path.normpath(f"{root}/{place}")) for place in its):
+                wrong.append(f"{path}: {it}")
+    return listed("no file for", wrong)
 
 
 def slugs(text):
     """The anchors of the headings of a document, as a browser of the repository makes them."""
-    headings = re.findall(r"(?m)^#+ (.*)$", re.sub(r"(?ms)^```.*?^```$", "", text))
-    return {
-        re.sub(r"[^\w -]", "", re.sub(r"\]\([^)]*\)", "", it).lower()).strip().replace(" ", "-")
-        for it in headings
-    }
+    headings = re.findall(r"(?m)^#+ (.*)$", FENCED.sub("", text))
+    plain = [re.sub(r"[^\w -]", "", re.sub(r"\]\([^)]*\)", "", it).lower()) for it in headings]
+    return {it.strip().replace(" ", "-") for it in plain}
 
 
 def anchors(root):
     """Links to headings that are not there."""
     wrong = []
-    for path in documents(root):
-        for file, anchor in re.findall(r"\]\(([^)#\s]*)#([^)\s]+)\)", read(f"{root}/{path}")):
-            whole = (
-                os.path.normpath(f"{root}/{os.path.dirname(path)}/{file}")
-                if file
-                else f"{root}/{path}"
-            )
-            if "://" not in file and os.path.exists(whole) and anchor not in slugs(read(whole)):
+    for path, text in texts(root).items():
+        for file, anchor in re.findall(r"\]\(([^)#\s]*)#([^)\s]+)\)", text):
+            whole = f"{root}/{os.path.dirname(path)}/{file}" if file else f"{root}/{path}"
+            is_there = "://" not in file and os.path.exists(os.path.normpath(whole))
+            if is_there and anchor not in slugs(read(os.path.normpath(whole))):
                 wrong.append(f"{path}: {file}#{anchor}")
-    return f"no heading for {', '.join(wrong)}" if wrong else None
+    return listed("no heading for", wrong)
 
 
 def page_of_crate(root, crate):
@@ -159,101 +148,63 @@ def page_of_crate(root, crate):
     text = read(f"{root}/{path}")
     sections = re.findall(r"(?m)^## (.*)$", text)
     proved = text.partition("\n## Proved\n")[2].partition("\n## ")[0]
-    absent = [
-        it
-        for it in re.findall(r"`((?:src|specs)/[\w/.]+)`", text)
-        if not os.path.exists(f"{root}/crates/{crate}/{it}")
-    ]
-    wrong = [
-        it
-        for it, is_wrong in {
-            "does not begin with its name": not text.startswith(f"# `{crate}`\n"),
-            f"has the sections {sections}": [it for it in sections if it != "Calls"] != SECTIONS,
-            f"has {len(text.splitlines())} lines": len(text.splitlines()) not in LINES,
-            f"has {len(proved.split())} words on what is proved": len(proved.split())
-            > PROVED_WORDS,
-            f"names {', '.join(absent)}": absent,
-        }.items()
-        if is_wrong
-    ]
-    return f"{path} {', '.join(wrong)}" if wrong else None
+    paths = re.findall(r"`((?:src|specs)/[\w/.]+)`", text)
+    absent = [it for it in paths if not os.path.exists(f"{root}/crates/{crate}/{it}")]
+    lines, words = len(text.splitlines()), len(proved.split())
+    found = {
+        "does not begin with its name": not text.startswith(f"# `{crate}`\n"),
+        f"has the sections {sections}": [it for it in sections if it != "Calls"] != SECTIONS,
+        f"has {lines} lines": lines not in LINES,
+        f"has {words} words on what is proved": words > PROVED_WORDS,
+        f"names {', '.join(absent)}": absent,
+    }
+    return listed(path, [it for it, is_wrong in found.items() if is_wrong])
 
 
 def crates(root):
     """What is wrong with the crates' documents."""
-    names = sorted(
-        os.path.basename(os.path.dirname(it)) for it in glob.glob(f"{root}/crates/*/src")
-    )
+    names = sorted(it.split("/")[-2] for it in glob.glob(f"{root}/crates/*/src"))
     return "; ".join(filter(None, (page_of_crate(root, it) for it in names))) or None
 
 
 def lengths(root):
     """Documents that are longer than they may be."""
-    words = {path: len(read(f"{root}/{path}").split()) for path in documents(root)}
-    wrong = [
-        f"{path} has {words[path]} words"
-        for path, most in MOST.items()
-        if words.get(path, 0) > most
-    ]
-    whole = sum(
-        count
-        for path, count in words.items()
-        if re.fullmatch(r"docs/(?:\w+/)*\w+\.md|crates/\w+/README\.md", path)
-    )
+    words = {path: len(text.split()) for path, text in texts(root).items()}
+    wrong = [f"{it} has {words[it]} words" for it, most in MOST.items() if words.get(it, 0) > most]
+    counted = re.compile(r"docs/(?:\w+/)*\w+\.md|crates/\w+/README\.md")
+    whole = sum(count for path, count in words.items() if counted.fullmatch(path))
     lines = len(read(f"{root}/README.md").splitlines())
-    return (
-        "; ".join(
-            [
-                *wrong,
-                *([f"all have {whole} words"] if whole > MOST_OF_ALL else []),
-                *([f"README.md has {lines} lines"] if lines > MOST_LINES else []),
-            ]
-        )
-        or None
-    )
+    wrong += [f"all have {whole} words"] if whole > MOST_OF_ALL else []
+    wrong += [f"README.md has {lines} lines"] if lines > MOST_LINES else []
+    return "; ".join(wrong) or None
 
 
 def hashes(root):
     """Hashes of commits that stand in running text."""
-    wrong = []
-    for path in documents(root):
-        text = re.sub(r"(?ms)^```.*?^```$|^(?:    |\s*\|).*?$", "", read(f"{root}/{path}"))
-        wrong += [f"{path}: {it}" for it in HASH.findall(text)]
-    return f"hashes outside of tables: {', '.join(wrong)}" if wrong else None
+    left_out = re.compile(r"(?ms)^```.*?^```$|^(?:    |\s*\|).*?$")
+    found = {path: HASH.findall(left_out.sub("", text)) for path, text in texts(root).items()}
+    wrong = [f"{path}: {it}" for path, its in found.items() for it in its]
+    return listed("hashes outside of tables:", wrong)
 
 
 def speed(root):
     """What bench/ makes anew of docs/SPEED.md and its charts that is not as it stands."""
     with tempfile.TemporaryDirectory() as folder:
         shutil.copy(f"{root}/docs/SPEED.md", folder)
-        for words in (
-            ("tables.py", "--page", f"{folder}/SPEED.md"),
-            ("charts.py", "--out", folder),
-        ):
-            ran = finished(
-                [sys.executable, "-B", f"{root}/bench/{words[0]}", *words[1:]], text=True
-            )
+        for name, option, place in (("tables", "--page", "/SPEED.md"), ("charts", "--out", "")):
+            words = ["-B", f"{root}/bench/{name}.py", option, f"{folder}{place}"]
+            ran = finished([sys.executable, *words], text=True)
             if ran.returncode:
-                return f"bench/{words[0]}: {ran.stderr}"
-        other = [
-            it
-            for it in sorted(os.listdir(folder))
-            if read(f"{folder}/{it}") != read(f"{root}/docs/{it}")
-        ]
-    if other:
-        return (
-            f"another run of bench/tables.py and bench/charts.py gives another {', '.join(other)}"
-        )
-    return None
+                return f"bench/{name}.py: {ran.stderr}"
+        made = {it: read(f"{folder}/{it}") for it in sorted(os.listdir(folder))}
+    other = [it for it, text in made.items() if text != read(f"{root}/docs/{it}")]
+    return listed("another run of bench/tables.py and bench/charts.py gives another", other)
 
 
 def measured(root):
     """The rows of docs/speed.tsv, by case and program."""
-    head, *rows = [
-        line.split("\t")
-        for line in read(f"{root}/docs/speed.tsv").splitlines()
-        if not line.startswith("#")
-    ]
+    lines = read(f"{root}/docs/speed.tsv").splitlines()
+    head, *rows = [it.split("\t") for it in lines if not it.startswith("#")]
     return {(row[0], row[1]): dict(zip(head, row)) for row in rows}
 
 
@@ -266,18 +217,13 @@ def speed_of_readme(root):
     """What README.md says beside TeX, in the sentence that links docs/SPEED.md: two ratios or more
     of `paragraphs` at tolerance 200, to one decimal place, and its words."""
     ours, tex = (measured(root)["paragraphs_200", it] for it in ("boxglue", "tex"))
-    lines = [
-        it
-        for it in read(f"{root}/README.md").splitlines()
-        if "](docs/SPEED.md)" in it and not it.startswith("|")
-    ]
+    given = [it for it in read(f"{root}/README.md").splitlines() if not it.startswith("|")]
+    lines, wrong = [it for it in given if "](docs/SPEED.md)" in it], []
     said = [found for it in lines for found in RATIO.findall(it)]
-    wrong = [
-        f"{number} of {what}"
-        for number, what in said
-        if len(number.partition(".")[2]) != 1
-        or not is_rounded(number, float(ours[COLUMNS[what]]) / float(tex[COLUMNS[what]]))
-    ]
+    for number, what in said:
+        ratio = float(ours[COLUMNS[what]]) / float(tex[COLUMNS[what]])
+        if len(number.partition(".")[2]) != 1 or not is_rounded(number, ratio):
+            wrong.append(f"{number} of {what}")
     words = f"{int(ours['units']):,} words"
     if len({what for _, what in said}) < 2 or not any(words in it for it in lines):
         return f"README.md has no sentence that links docs/SPEED.md, with two ratios to TeX for {words}"
@@ -288,40 +234,19 @@ def figures_of_manual(root):
     """What the manual page says of time and memory that is not docs/speed.tsv, rounded."""
     page, rows = read(f"{root}/docs/boxglue.1"), measured(root)
     few, many = (rows[it, "boxglue"] for it in PAGES)
-    wanted = [
-        (
-            pattern,
-            [
-                float(rows[case, "boxglue"][it]) / scale
-                for it, scale in (("units", 1), ("seconds", 1), ("memory", 1e6))
-            ],
-        )
-        for pattern, case in ON_MANUAL
-    ]
-    wanted.append(
-        (
-            PAGE_ON_MANUAL,
-            [
-                (float(many["seconds"]) - float(few["seconds"]))
-                / (int(many["units"]) - int(few["units"]))
-                * 1e6
-            ],
-        )
-    )
-    found = [(re.search(pattern, page), values) for pattern, values in wanted]
-    right = [
-        it
-        and all(
-            is_rounded(said.replace(",", ""), value) for said, value in zip(it.groups(), values)
-        )
-        for it, values in found
-    ]
-    wrong = [pattern for (pattern, _), it in zip(wanted, right) if not it]
-    if wrong:
-        return (
-            f"docs/boxglue.1 does not have the figures of docs/speed.tsv in {' and '.join(wrong)}"
-        )
-    return None
+    more = {it: float(many[it]) - float(few[it]) for it in ("seconds", "units")}
+    scales = {"units": 1, "seconds": 1, "memory": 1e6}
+    wanted = {PAGE_ON_MANUAL: [more["seconds"] / more["units"] * 1e6]}
+    for pattern, case in ON_MANUAL:
+        wanted[pattern] = [float(rows[case, "boxglue"][it]) / by for it, by in scales.items()]
+    wrong = []
+    for pattern, values in wanted.items():
+        found = re.search(pattern, page)
+        said = [it.replace(",", "") for it in found.groups()] if found else []
+        if not found or not all(map(is_rounded, said, values)):
+            wrong.append(pattern)
+    what = "docs/boxglue.1 does not have the figures of docs/speed.tsv in"
+    return f"{what} {' and '.join(wrong)}" if wrong else None
 
 
 def figures(text):
@@ -332,33 +257,27 @@ def figures(text):
 def figures_with_source(root):
     """Figures of a paragraph that links SPEED or GATE, and that this document does not have."""
     wrong = []
-    for path in documents(root):
-        for paragraph in re.split(r"\n\s*\n", read(f"{root}/{path}")):
-            sources = [
-                os.path.normpath(f"{root}/{os.path.dirname(path)}/{it}")
-                for it in SOURCE.findall(paragraph)
-            ]
-            known = {
-                it for source in sources if os.path.exists(source) for it in figures(read(source))
-            }
+    for path, text in texts(root).items():
+        folder = f"{root}/{os.path.dirname(path)}"
+        for paragraph in re.split(r"\n\s*\n", text):
+            sources = [os.path.normpath(f"{folder}/{it}") for it in SOURCE.findall(paragraph)]
+            known = {it for file in filter(os.path.exists, sources) for it in figures(read(file))}
             wrong += [f"{path}: {it}" for it in sorted(figures(paragraph) - known) if sources]
-    return f"figures that the linked document does not have: {', '.join(wrong)}" if wrong else None
+    return listed("figures that the linked document does not have:", wrong)
 
 
 def edits(root):
     """Whether docs/internal/EVIDENCE.md counts the edits as they are, and no crate has too many of
     them in wrong-bodies/."""
-    many = [
-        it
-        for it in sorted(glob.glob(f"{root}/crates/*"))
-        if len(glob.glob(f"{it}/wrong-bodies/*.edit")) > MOST_EDITS
-    ]
-    if many:
-        return f"more than {MOST_EDITS} edits are in wrong-bodies/ of {', '.join(os.path.basename(it) for it in many)}"
-    counts = [
-        f"{len(glob.glob(f'{root}/crates/*/{folder}/*.edit')):,}"
+    found = {
+        folder: glob.glob(f"{root}/crates/*/{folder}/*.edit")
         for folder in ("must-fail", "wrong-bodies")
-    ]
+    }
+    crates_of = Counter(it.split("/")[-3] for it in found["wrong-bodies"])
+    many = sorted(it for it, count in crates_of.items() if count > MOST_EDITS)
+    if many:
+        return f"more than {MOST_EDITS} edits are in wrong-bodies/ of {', '.join(many)}"
+    counts = [f"{len(its):,}" for its in found.values()]
     line = f"{counts[0]} edits are in `must-fail/`, {counts[1]} in `wrong-bodies/`."
     if line in read(f"{root}/docs/internal/EVIDENCE.md").splitlines():
         return None
@@ -367,14 +286,12 @@ def edits(root):
 
 def cases(_programs, root):
     """The cases, by name."""
-    yield "README.md of each crate", partial(crates, root)
-    yield "links", partial(links, root)
-    yield "anchors", partial(anchors, root)
-    yield "lengths", partial(lengths, root)
-    yield "nothing twice", partial(said_twice, root)
-    yield "hashes", partial(hashes, root)
-    yield "speed", partial(speed, root)
-    yield "speed in README.md", partial(speed_of_readme, root)
-    yield "figures of the manual page", partial(figures_of_manual, root)
-    yield "figures with a source", partial(figures_with_source, root)
-    yield "edits", partial(edits, root)
+    checks = {"README.md of each crate": crates, "links": links, "anchors": anchors}
+    checks |= {"lengths": lengths, "nothing twice": said_twice, "hashes": hashes, "speed": speed}
+    checks |= {
+        "speed in README.md": speed_of_readme,
+        "figures of the manual page": figures_of_manual,
+    }
+    checks |= {"figures with a source": figures_with_source, "edits": edits}
+    for name, check in checks.items():
+        yield name, partial(check, root)
