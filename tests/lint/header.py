@@ -15,7 +15,7 @@ import sys
 import tempfile
 from functools import partial
 
-from common.files import read
+from common.files import read, source
 from common.running import finished
 from tools import version as tools_version
 
@@ -42,21 +42,16 @@ CHANGED = (
     "struct boxglue_dvi_font { int32_t number; int32_t size; size_t name_start; size_t name_size; };",
 )
 RELEASED = r"(?m)^## (\d+\.\d+\.\d+), \d+ \w+ \d{4}$"
-TYPES = {
-    "usize": "size_t",
-    "": "void",
-    "*mut u8": "void *",
-    **{
-        f"{it[0]}{it[1:]}": f"{'u' * (it[0] == 'u')}int{it[1:]}_t"
-        for it in "u8 u32 u64 i32 i64".split()
-    },
+TYPES = {"usize": "size_t", "": "void", "*mut u8": "void *", "JobHandle": "struct boxglue_job"}
+TYPES |= {f"u{it}": f"uint{it}_t" for it in (8, 32, 64)} | {
+    f"i{it}": f"int{it}_t" for it in (32, 64)
 }
-TYPES |= {
-    it: f"struct boxglue_{kind}"
-    for it, kind in zip(
-        "JobHandle DviPage DviMark ReplyRow BoxItem".split(), "job page mark reply item".split()
-    )
-}
+TYPES |= {"DviPage": "struct boxglue_page", "DviMark": "struct boxglue_mark"}
+TYPES |= {"ReplyRow": "struct boxglue_reply", "BoxItem": "struct boxglue_item"}
+# Files of the program, the library, their documents and packages.
+OTHERS = """
+    install include/* completions/* docs/boxglue.1 bindings/**/* crates/*/src/**/*.rt
+    tools/**/*""".split()
 NAMES = {"box_sizes": "box"}  # what Rust does not take as a name
 
 
@@ -75,11 +70,8 @@ def slice_of(name, item, mutable):
     """The pointer and the length that C passes for a slice. A length is named after one item:
     `fonts` and `font_count`."""
     kind = c_type(item)
-    one = (
-        re.sub("ies$|s$", lambda end: "y" if end[0] == "ies" else "", name)
-        if kind.startswith("struct")
-        else name
-    )
+    plural = re.compile("ies$|s$") if kind.startswith("struct") else re.compile("(?!)")
+    one = plural.sub(lambda end: "y" if end[0] == "ies" else "", name)
     suffix = "room" if mutable else "size" if item == "u8" else "count"
     return [f"{'' if mutable else 'const '}{kind} *{name}", f"size_t {one}_{suffix}"]
 
@@ -95,11 +87,9 @@ def c_fields(name, kind):
     if not borrowed:
         return [f"{c_type(kind)} {NAMES.get(name, name)}".replace("* ", "*")]
     mutable, item, one = borrowed.groups()
-    return (
-        slice_of(name, item, mutable)
-        if item
-        else [f"{'' if mutable else 'const '}{c_type(one)} *{name}"]
-    )
+    if item:
+        return slice_of(name, item, mutable)
+    return [f"{'' if mutable else 'const '}{c_type(one)} *{name}"]
 
 
 def c_list(text):
@@ -110,9 +100,8 @@ def c_list(text):
 
 def exports(root):
     """Each exported function as C declares it."""
-    for name, parameters, result in re.findall(
-        r'pub extern "C" fn (\w+)\(([^)]*)\)(?: -> (\w+))?', read(f"{root}/{EXPORTS}")
-    ):
+    call = r'pub extern "C" fn (\w+)\(([^)]*)\)(?: -> (\w+))?'
+    for name, parameters, result in re.findall(call, read(f"{root}/{EXPORTS}")):
         yield f"{c_type(result)} {name}({', '.join(c_list(parameters)) or 'void'});"
 
 
@@ -121,21 +110,30 @@ def functions_of(text):
     return re.findall(r"\w+ boxglue_\w+\([^)]*\);", text.partition(CALLS_OF_C)[0])
 
 
+def structs_of(text):
+    """The fields of each struct that a header declares."""
+    found = re.findall(r"(struct boxglue_\w+) \{([^}]*)\};", text)
+    return {name: [it.strip() for it in fields.split(";")[:-1]] for name, fields in found}
+
+
+def compared(who, found, others, wanted):
+    """How what one declares differs from what others do, or None. There has to be something."""
+    if wanted and found == wanted:
+        return None
+    return f"{who} has {found}, and {others} {wanted}"
+
+
 def functions(root):
     """What is wrong with the functions."""
     found = functions_of(declared(root))
-    wanted = list(exports(root))
-    if wanted and found == wanted:
-        return None
-    return f"the header declares {found}, and the exports are {wanted}"
+    return compared("the header", found, "the exports have", [*exports(root)])
 
 
 def address_call(kind, name, size):
     """What gives an address for a pointer of a type that may be null where its size is 0."""
     plain = kind.removeprefix("const ").removeprefix("struct boxglue_")
-    many = {"uint8_t": "bytes" if plain != kind else "room"}.get(plain) or re.sub(
-        r"ys$", "ies", f"{plain}s"
-    )
+    bytes_of = "bytes" if plain != kind else "room"
+    many = bytes_of if plain == "uint8_t" else re.sub(r"ys$", "ies", f"{plain}s")
     return f"boxglue_{many}_at({name}, {size})"
 
 
@@ -152,53 +150,33 @@ def words_of(parameters):
 def null_calls(root):
     """What is wrong with the calls that take null pointers."""
     before, _, after = declared(root).partition(CALLS_OF_C)
-    wanted = []
+    wanted, missing = 0, []
     for name, parameters in re.findall(r"uint32_t (boxglue_\w+)\(([^)]*)\);", before):
         passed = ", ".join(words_of(parameters))
+        taken = parameters.replace("const uint8_t *script", "const void *script")
+        body = f"{{ return {name}({passed}); }}"
+        call = f"static inline uint32_t {name}_or_null({taken}) {body}"
         if "_at(" in passed:
-            taken = parameters.replace("const uint8_t *script", "const void *script")
-            wanted.append(
-                (
-                    name,
-                    f"static inline uint32_t {name}_or_null({taken}) {{ return {name}({passed}); }}",
-                )
-            )
-    missing = [
-        call
-        for name, call in wanted
-        if call not in after or f"#define {name} {name}_or_null " not in f"{after} "
-    ]
+            wanted += 1
+            is_there = call in after and f"#define {name} {name}_or_null " in f"{after} "
+            missing += [] if is_there else [call]
     return f"the header has not {missing}" if missing or not wanted else None
 
 
 def structs(root):
     """What is wrong with the structs."""
-    sources = "".join(
-        read(f"{root}/{CALLS}/{it}.rt")
-        for it in ("runs", "given", "font_table", "mark_table", "faults", "font_rows")
-    )
-    sources += "".join(read(f"{root}/{JOBS}/{it}.rt") for it in ("handle", "rows", "whole"))
-    sources += "".join(read(f"{root}/{ITEMS}/{it}.rt") for it in ("place", "row", "writing"))
+    names = [f"{CALLS}/{it}" for it in "runs given font_table mark_table faults font_rows".split()]
+    names += [f"{JOBS}/{it}" for it in ("handle", "rows", "whole")]
+    names += [f"{ITEMS}/{it}" for it in ("place", "row", "writing")]
+    sources = "".join(read(f"{root}/{it}.rt") for it in names)
     counts = re.search(r"const COUNTS: usize = (\d+);", read(f"{root}/{COUNTS}"))[1]
+    derived = r"#\[repr\(C\)\]\s+(?:#\[derive\([^)]*\)\]\s+)?"
+    struct = re.compile(derived + r"pub struct (\w+)(?:<'a>)? \{(.*?)\n\}", re.S)
     wanted = {}
-    for name, fields in re.findall(
-        r"#\[repr\(C\)\]\s+(?:#\[derive\([^)]*\)\]\s+)?pub struct (\w+)(?:<'a>)? \{(.*?)\n\}",
-        sources,
-        flags=re.S,
-    ):
-        plain = (
-            re.sub(r"///.*|(pub )?ghost .*", "", fields)
-            .replace("pub ", "")
-            .replace("COUNTS", counts)
-        )
-        wanted[c_type(name)] = c_list(plain)
-    found = {
-        name: [it.strip() for it in fields.split(";") if it.strip()]
-        for name, fields in re.findall(r"(struct boxglue_\w+) \{([^}]*)\};", declared(root))
-    }
-    if wanted and found == wanted:
-        return None
-    return f"the header has {found}, and the calls have {wanted}"
+    for name, fields in struct.findall(sources):
+        plain = re.sub(r"///.*|(pub )?ghost .*|pub ", "", fields)
+        wanted[c_type(name)] = c_list(plain.replace("COUNTS", counts))
+    return compared("the header", structs_of(declared(root)), "the calls have", wanted)
 
 
 def spelled(name):
@@ -208,55 +186,40 @@ def spelled(name):
 
 def numbers(root, enum, prefix, *sources, row=r"const (\w+): u32 = (\d+);"):
     """What is wrong with the numbers of an enum. A row of the sources has a name and its number."""
-    found = re.findall(
-        rf"{prefix}(\w+) = (\d+)", re.search(rf"enum {enum} {{(.*?)}}", declared(root))[1]
-    )
+    body = re.search(rf"enum boxglue_{enum} {{(.*?)}}", declared(root))[1]
     rows = re.findall(row, "".join(read(f"{root}/{it}") for it in sources))
-    wanted = [(spelled(name), number) for name, number in rows]
-    if wanted and found == sorted(wanted, key=lambda it: int(it[1])):
-        return None
-    return f"the header has {found}, and the calls have {wanted}"
+    wanted = sorted(((spelled(name), number) for name, number in rows), key=lambda it: int(it[1]))
+    return compared(
+        "the header", re.findall(rf"{prefix}(\w+) = (\d+)", body), "the calls have", wanted
+    )
 
 
 def statuses(root):
     """What is wrong with the statuses."""
-    return numbers(root, "boxglue_status", "BOXGLUE_", f"{CALLS}/status.rt", f"{JOBS}/status.rt")
+    return numbers(root, "status", "BOXGLUE_", f"{CALLS}/status.rt", f"{JOBS}/status.rt")
 
 
 def reply_kinds(root):
     """What is wrong with the kinds of replies."""
-    return numbers(root, "boxglue_reply_kind", "BOXGLUE_REPLY_", f"{JOBS}/reply_kind.rt")
+    return numbers(root, "reply_kind", "BOXGLUE_REPLY_", f"{JOBS}/reply_kind.rt")
 
 
 def numbers_of_replies(root):
     """What is wrong with the numbers of refusals, of their causes, and of kinds of boxes and
     items."""
-    rows = f"{JOBS}/rows.rt"
-    faults = f"{CALLS}/faults.rt"
-    wrong = (
-        numbers(
-            root,
-            "boxglue_refusal",
-            "BOXGLUE_REFUSAL_",
-            REFUSALS,
-            rows,
-            faults,
-            row=r"(?:Refusal::|const )(\w+)\S* (?:=> \(|u32 = )(\d+)",
-        ),
-        numbers(
-            root, "boxglue_dvi_cause", "BOXGLUE_DVI_", faults, row=r"\bDviCause::(\w+) => (\d+)"
-        ),
-        numbers(root, "boxglue_tfm_cause", "BOXGLUE_TFM_", rows, row=r"\bTfmCause::(\w+) => (\d+)"),
-        numbers(root, "boxglue_line_cause", "BOXGLUE_LINE_", rows, row=r"\bCause::(\w+) => (\d+)"),
-        numbers(root, "boxglue_box_kind", "BOXGLUE_BOX_", rows, row=r"\bKind::(\w+) => (\d+)"),
-        numbers(
-            root,
-            "boxglue_item_kind",
-            "BOXGLUE_ITEM_",
-            f"{ITEMS}/row.rt",
-            row=r"\bItemKind::(\w+) => (\d+)",
-        ),
-    )
+    rows, faults = f"{JOBS}/rows.rt", f"{CALLS}/faults.rt"
+    refusals = r"(?:Refusal::|const )(\w+)\S* (?:=> \(|u32 = )(\d+)"
+    sources = REFUSALS, rows, faults
+    wrong = [numbers(root, "refusal", "BOXGLUE_REFUSAL_", *sources, row=refusals)]
+    for enum, kind, path in (
+        ("dvi_cause", "DviCause", faults),
+        ("tfm_cause", "TfmCause", rows),
+        ("line_cause", "Cause", rows),
+        ("box_kind", "Kind", rows),
+        ("item_kind", "ItemKind", f"{ITEMS}/row.rt"),
+    ):
+        prefix = f"BOXGLUE_{enum.partition('_')[0].upper()}_"
+        wrong.append(numbers(root, enum, prefix, path, row=rf"\b{kind}::(\w+) => (\d+)"))
     return "; ".join(it for it in wrong if it) or None
 
 
@@ -264,12 +227,11 @@ def status_texts(root):
     """What is wrong with the texts of the statuses: C and Python have the same ones."""
     found = re.findall(r'case BOXGLUE_(\w+): return ("[^"]+");', declared(root))
     wanted = re.findall(r'Status\.(\w+): ("[^"]+"),', read(f"{root}/{STATUSES_OF_PYTHON}"))
-    names = re.findall(
-        r"BOXGLUE_(\w+) = \d+", re.search(r"enum boxglue_status \{([^}]*)\}", declared(root))[1]
-    )
+    body = re.search(r"enum boxglue_status \{([^}]*)\}", declared(root))[1]
+    names = re.findall(r"BOXGLUE_(\w+) = \d+", body)
     if [name for name, _ in found] != names:
         return f"the header has texts of {[name for name, _ in found]}, and the statuses {names}"
-    return None if found == wanted else f"the header has {found}, and Python has {wanted}"
+    return compared("the header", found, "Python has", wanted)
 
 
 def refusal_names(root):
@@ -278,56 +240,42 @@ def refusal_names(root):
     lists = re.findall(r"const names\[\] = \{([^}]*)\}", declared(root))
     found = [re.findall(r'"(\w+)"', it) for it in lists]
     text = read(f"{root}/{REPLIES_OF_PYTHON}")
-    wanted = [
-        re.findall(r'"(\w+)"', re.search(rf"(?ms)^{it} = (.*?)^(?=\w)", text)[1])
-        for it in ("_REFUSALS", "_DVI_CAUSES", "_METRIC_CAUSES")
-    ]
-    return None if found == wanted else f"the header has {found}, and Python has {wanted}"
+    names = ("_REFUSALS", "_DVI_CAUSES", "_METRIC_CAUSES")
+    python_lists = [re.search(rf"(?ms)^{it} = (.*?)^(?=\w)", text)[1] for it in names]
+    wanted = [re.findall(r'"(\w+)"', it) for it in python_lists]
+    return compared("the header", found, "Python has", wanted)
 
 
 def c_of_rust(text):
     """What C writes for parameters or fields of Rust. A name that is a word of Rust has an
     underscore after it there."""
-    made = []
+    made, names = [], {"core::ffi::c_void": "void", "i64": "int64_t"}
+    form = re.compile(r"(?:\*(const|mut) (\S+)|\[(\w+); (\d+)\]|(.*\S))\s*", re.S)
     for name, kind in re.findall(r"(\w+): ([^,]+)", re.sub(r"///.*|\bpub ", "", text)):
-        pointer, length = re.fullmatch(r"\*(const|mut) (\S+)\s*", kind), re.fullmatch(
-            r"\[(\w+); (\d+)\]\s*", kind
-        )
-        item = (pointer[2] if pointer else length[1] if length else kind).strip()
-        plain = (
-            {"core::ffi::c_void": "void", "i64": "int64_t"}.get(item)
-            or TYPES.get(item)
-            or f"struct {item}"
-        )
-        made.append(
-            f"{'const ' if pointer and pointer[1] == 'const' else ''}{plain} {'*' if pointer else ''}{name.rstrip('_')}{f'[{length[2]}]' if length else ''}"
-        )
+        pointer, target, element, length, value = form.fullmatch(kind).groups()
+        item = target or element or value
+        plain = names.get(item) or TYPES.get(item) or f"struct {item}"
+        before, star = "const " * (pointer == "const"), "*" * bool(pointer)
+        made.append(f"{before}{plain} {star}{name.rstrip('_')}{f'[{length}]' if length else ''}")
     return made
 
 
 def rust(root):
     """What is wrong with the declarations of bindings/rust."""
-    text = read(f"{root}/{RUST}")
+    text, header = read(f"{root}/{RUST}"), declared(root)
+    calls = re.findall(r"pub fn (\w+)\(([^)]*)\)(?: -> (\w+))?;", text)
     found = [
         f"{c_type(result)} {name}({', '.join(c_of_rust(given)) or 'void'});"
-        for name, given, result in re.findall(r"pub fn (\w+)\(([^)]*)\)(?: -> (\w+))?;", text)
+        for name, given, result in calls
     ]
-    if found != functions_of(declared(root)):
-        return f"Rust declares {found}, and the header {functions_of(declared(root))}"
-    found = {
-        f"struct {name}": c_of_rust(fields)
-        for name, fields in re.findall(r"pub struct (\w+) \{(.*?)\n\}", text, flags=re.S)
-    }
-    wanted = {
-        name: [it.strip() for it in fields.split(";") if it.strip()]
-        for name, fields in re.findall(r"(struct boxglue_\w+) \{([^}]*)\};", declared(root))
-    }
-    if found != wanted:
-        return f"Rust has {found}, and the header {wanted}"
-    found, wanted = re.findall(r"pub const (BOXGLUE_\w+): u32 = (\d+);", text), re.findall(
-        r"(BOXGLUE_\w+) = (\d+)", declared(root)
+    fields = re.findall(r"pub struct (\w+) \{(.*?)\n\}", text, flags=re.S)
+    structs_of_rust = {f"struct {name}": c_of_rust(its) for name, its in fields}
+    constants = re.findall(r"pub const (BOXGLUE_\w+): u32 = (\d+);", text)
+    return (
+        compared("Rust", found, "the header", functions_of(header))
+        or compared("Rust", structs_of_rust, "the header", structs_of(header))
+        or compared("Rust", constants, "the header", re.findall(r"(BOXGLUE_\w+) = (\d+)", header))
     )
-    return None if found == wanted else f"Rust has {found}, and the header {wanted}"
 
 
 # Prints the structs, the calls and the numbers of the binding for Python as C declares them. It
@@ -360,9 +308,8 @@ def python_words(root):
     """What the binding for Python has: by the names of structs, of calls and of enums their fields,
     their parameters and their numbers."""
     env = {"PYTHONPATH": f"{root}/bindings/python", "PYTHONDONTWRITEBYTECODE": "1"}
-    return json.loads(
-        finished([sys.executable, "-c", PRINT_PYTHON], env=env, text=True, check=True).stdout
-    )
+    ran = finished([sys.executable, "-c", PRINT_PYTHON], env=env, text=True, check=True)
+    return json.loads(ran.stdout)
 
 
 def python_type(declaration):
@@ -376,17 +323,15 @@ def python_wanted(root):
     """The same of the header."""
     text = declared(root).partition(CALLS_OF_C)[0]
     made = {
-        name: [" ".join(python_type(it)) for it in body.split(";")[:-1]]
-        for name, body in re.findall(r"(struct boxglue_\w+) \{([^}]*)\};", text)
+        name: [" ".join(python_type(it)) for it in fields]
+        for name, fields in structs_of(text).items()
     }
     for name, body in re.findall(r"\w+ (boxglue_\w+)\(([^)]*)\);", text):
         made[name] = [] if body == "void" else [python_type(it)[0] for it in body.split(",")]
     for name, body in re.findall(r"(enum boxglue_\w+) \{([^}]*)\};", text):
         rows = re.findall(r"BOXGLUE_(\w+) = (\d+)", body)
-        prefix = os.path.commonprefix([it for it, _ in rows])
-        made[name] = [
-            [it.removeprefix(prefix[: prefix.rfind("_") + 1]), int(number)] for it, number in rows
-        ]
+        prefix = re.match(r"(?:.*_)?", os.path.commonprefix([it for it, _ in rows]))[0]
+        made[name] = [[it.removeprefix(prefix), int(number)] for it, number in rows]
     return made
 
 
@@ -418,59 +363,34 @@ def new_version(root):
             shutil.copy(f"{root}/{path}", f"{room}/{path}")
         tools_version.write(room, "1.23.4")
         wrong = tools_version.wrong(room)
-        return "; ".join(wrong) or (
-            None
-            if (tools_version.number(room), tools_version.dotted(room)) == (12304, "1.23.4")
-            else "the header has another version"
-        )
+        numbers_there = tools_version.number(room), tools_version.dotted(room)
+        if not wrong and numbers_there != (12304, "1.23.4"):
+            return "the header has another version"
+        return "; ".join(wrong) or None
 
 
 def other_places(root):
     """Lines of the program, the library, their documents and packages that have the version, and
     that tools/version.py does not write. A line may tell of its history."""
     number, wrong = tools_version.dotted(root), []
-    patterns = "install include/* completions/* docs/boxglue.1 bindings/**/* crates/*/src/**/*.rt tools/**/*".split()
-    for path in sorted(
-        {
-            os.path.relpath(it, root)
-            for pattern in patterns
-            for it in glob.glob(f"{root}/{pattern}", recursive=True)
-            if os.path.isfile(it)
-        }
-    ):
-        with open(f"{root}/{path}", encoding="utf-8", errors="replace") as it:
-            text = it.read()
-        for place in (
-            pattern
-            for name, pattern in [
-                (tools_version.HEADER, tools_version.DEFINED),
-                *tools_version.PLACES,
-            ]
-            if name == path
-        ):
-            text = re.sub(place, "", text)
-        wrong += [
-            f"{path}: {line.strip()}"
-            for line in text.splitlines()
-            if number in line
-            and not re.search(r"since = |such as|as 1|From |In 1|tools/version\.py", line)
-        ]
+    history = re.compile(r"since = |such as|as 1|From |In 1|tools/version\.py")
+    known = [(tools_version.HEADER, tools_version.DEFINED), *tools_version.PLACES]
+    found = {it for each in OTHERS for it in glob.glob(f"{root}/{each}", recursive=True)}
+    for path in sorted(os.path.relpath(it, root) for it in found if os.path.isfile(it)):
+        text = source(f"{root}/{path}")
+        for pattern in [pattern for name, pattern in known if name == path]:
+            text = re.sub(pattern, "", text)
+        lines = [it for it in text.splitlines() if number in it and not history.search(it)]
+        wrong += [f"{path}: {it.strip()}" for it in lines]
     return "; ".join(wrong) or None
 
 
 def interface_of(text):
     """What a program can see of a header: its calls, its structs and the numbers of its enums."""
-    structs_of = re.findall(r"struct boxglue_\w+ \{[^}]*\};", text)
-    enums = re.findall(r"enum (boxglue_\w+) \{([^}]*)\}", text)
-    return [
-        *functions_of(text),
-        *structs_of,
-        *(
-            f"enum {name} {it};"
-            for name, body in enums
-            for it in re.findall(r"BOXGLUE_\w+ = \d+", body)
-        ),
-    ]
+    rows = functions_of(text) + re.findall(r"struct boxglue_\w+ \{[^}]*\};", text)
+    for name, body in re.findall(r"enum (boxglue_\w+) \{([^}]*)\}", text):
+        rows += [f"enum {name} {it};" for it in re.findall(r"BOXGLUE_\w+ = \d+", body)]
+    return rows
 
 
 def digest_of(lines):
@@ -494,61 +414,48 @@ def first_number(number):
 
 def gone_wrong(rows):
     """Rows that are gone, and stood in a version with the same first number."""
-    gone = [
-        (number, it.removeprefix(GONE))
-        for number, its in rows.items()
-        for it in its
-        if it.startswith(GONE)
-    ]
-    stood = lambda what, first: any(
-        what in its and first_number(it) == first for it, its in rows.items()
-    )
-    return [
-        what
-        for number, what in gone
-        if (number, what) != CHANGED and stood(what, first_number(number))
-    ]
+    pairs = [(number, it) for number, its in rows.items() for it in its]
+    stood = {(what, first_number(number)) for number, what in pairs}
+    gone = [(number, it.removeprefix(GONE)) for number, it in pairs if it.startswith(GONE)]
+    return [it for at, it in gone if (at, it) != CHANGED and (it, first_number(at)) in stood]
 
 
 def interface_wrong(text, rows, number, released):
     """What is wrong with the header of a version and the list by version."""
     lines = [it for its in rows.values() for it in its if not it.startswith(DIGEST)]
-    found, here = sorted(interface_of(text)), sorted(
-        it for it in lines if not it.startswith(GONE) and GONE + it not in lines
-    )
+    found = sorted(interface_of(text))
+    here = sorted(it for it in lines if not it.startswith(GONE) and GONE + it not in lines)
     if found != here:
         return f"{INTERFACE} and the header differ in {sorted({*found} ^ {*here})}: a row has the version that added it, and a released version keeps its rows"
     if gone_wrong(rows):
         return f"{gone_wrong(rows)} can be gone only where the first number rises"
-    wrong = [
-        it
-        for it in released
-        if digest_of([line for line in rows.get(it, []) if not line.startswith(DIGEST)])
-        not in rows.get(it, [])
-    ]
+    wrong = []
+    for it in released:
+        its = rows.get(it, [])
+        digest = digest_of([line for line in its if not line.startswith(DIGEST)])
+        wrong += [] if digest in its else [it]
     late = [it for it in rows if [*map(int, it.split("."))] > [*map(int, number.split("."))]]
     if wrong + late:
         return f"{INTERFACE} has other rows for {', '.join(wrong + late)} than when it was released: raise the number by tools/version.py"
     return None
 
 
+def released_versions(root):
+    """The versions that CHANGELOG.md dates."""
+    return re.findall(RELEASED, read(f"{root}/CHANGELOG.md"))
+
+
 def interface(root):
     """What is wrong with the header and the list by version."""
-    return interface_wrong(
-        declared(root),
-        listed(root),
-        tools_version.dotted(root),
-        re.findall(RELEASED, read(f"{root}/CHANGELOG.md")),
-    )
+    rows, number = listed(root), tools_version.dotted(root)
+    return interface_wrong(declared(root), rows, number, released_versions(root))
 
 
 def new_call(root):
     """Whether a call is found that is added without a new number, whatever row it has; and one that
     is gone."""
     text, rows, number = declared(root), listed(root), tools_version.dotted(root)
-    call, released = "uint32_t boxglue_new(void);", re.findall(
-        RELEASED, read(f"{root}/CHANGELOG.md")
-    )
+    call, released = "uint32_t boxglue_new(void);", released_versions(root)
     # A version that is released takes no row, so the next one stands for it.
     if number in released:
         number = f"{number.partition('.')[0]}.{int(number.split('.')[1]) + 1}.0"
@@ -556,39 +463,28 @@ def new_call(root):
     longer = f"{call} {text}"
     with_row = lambda its, at, what=call: {**its, at: [*its.get(at, []), what]}
     frozen, old = with_row(rows, number, digest_of(rows[number])), functions_of(text)[0]
+    without_old, gone = text.replace(old, ""), with_row(rows, number, GONE + old)
+    earlier, later = with_row(rows, released[0]), with_row(rows, "99.0.0")
     refused = {
-        "no row": interface_wrong(longer, rows, number, released),
-        "a released version": interface_wrong(
-            longer, with_row(rows, released[0]), number, released
+        "no row": (longer, rows, number, released),
+        "a released version": (longer, earlier, number, released),
+        "a later version": (longer, later, number, released),
+        "this version, once it is released": (
+            longer,
+            with_row(frozen, number),
+            number,
+            [*released, number],
         ),
-        "a later version": interface_wrong(longer, with_row(rows, "99.0.0"), number, released),
-        "this version, once it is released": interface_wrong(
-            longer, with_row(frozen, number), number, [*released, number]
-        ),
-        "a call that is gone": interface_wrong(
-            text.replace(old, ""), with_row(rows, number, GONE + old), number, released
-        ),
+        "a call that is gone": (without_old, gone, number, released),
     }
+    lost = [f"{name} is not found" for name, it in refused.items() if not interface_wrong(*it)]
     allowed = interface_wrong(longer, with_row(rows, number), number, released)
-    return (
-        allowed
-        or "; ".join(f"{name} is not found" for name, wrong in refused.items() if not wrong)
-        or None
-    )
+    return allowed or "; ".join(lost) or None
 
 
 def cases(_programs, root):
     """A case for each kind of declaration."""
     of_c = functions, null_calls, structs, statuses, reply_kinds, numbers_of_replies, status_texts
-    for check in (
-        *of_c,
-        refusal_names,
-        rust,
-        python,
-        version,
-        new_version,
-        other_places,
-        interface,
-        new_call,
-    ):
+    versions = version, new_version, other_places, interface, new_call
+    for check in (*of_c, refusal_names, rust, python, *versions):
         yield check.__name__, partial(check, root)
