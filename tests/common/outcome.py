@@ -23,6 +23,11 @@ def require(holds, why):
         raise Wrong(why)
 
 
+def equal(what, found, wanted):
+    """Raises what was found where something else is wanted."""
+    require(found == wanted, f"{what}: found {found!r}, and not {wanted!r}")
+
+
 def without(tool):
     """The result of a case for which this tool has to be there, and is not. docs/internal/GATE.md
     lists the tool: the gate lets no other case be skipped."""

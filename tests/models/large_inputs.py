@@ -182,25 +182,35 @@ def rounded_up(length, dpi):
 
 
 @lru_cache(None)
-def row_text(spans, width):
-    """The text of a row in which these columns are black, each pair a first one and an end: a line
-    feed after each 70 digits and at its end."""
+def painted_row(spans, width):
+    """The digits of a row in which these columns are black, each pair a first one and an end."""
     row = bytearray(b"0" * width)
     for first, end in spans:
         first, end = max(first, 0), min(end, width)
         row[first:end] = b"1" * max(end - first, 0)
-    return b"".join(bytes(row[at : at + 70]) + b"\n" for at in range(0, width, 70))
+    return bytes(row)
 
 
-def bitmap(rules, dpi, width, height):
-    """The text of a bitmap, in blocks: the head, and each row. Rules are (h, v, height, width)."""
+@lru_cache(None)
+def row_text(row):
+    """The text of a row: a line feed after each 70 digits and at its end."""
+    return b"".join(row[at : at + 70] + b"\n" for at in range(0, len(row), 70))
+
+
+def painted_rows(rules, dpi, width, height):
+    """The digits of each row of a bitmap. Rules are (h, v, height, width)."""
     spans = defaultdict(set)
     for h, v, rule_height, rule_width in rules:
         bottom, left = rounded(v, dpi), rounded(h, dpi)
         for row in range(bottom - rounded_up(rule_height, dpi) + 1, bottom + 1):
             spans[row].add((left, left + rounded_up(rule_width, dpi)))
-    rows = [row_text(frozenset(spans[at]), width) for at in range(height)]
-    return [f"P1\n{width} {height}\n".encode(), *rows]
+    return [painted_row(frozenset(spans[at]), width) for at in range(height)]
+
+
+def bitmap(rules, dpi, width, height):
+    """The text of a bitmap of these rules, in blocks: the head, and each row."""
+    rows = painted_rows(rules, dpi, width, height)
+    return [f"P1\n{width} {height}\n".encode(), *map(row_text, rows)]
 
 
 def paint_words(page, dpi, width, height, *names):

@@ -12,9 +12,10 @@ from dataclasses import dataclass
 from functools import partial
 
 from common.files import content, read, write
-from common.outcome import on_each, require
+from common.outcome import equal, on_each, require
 from common.part import in_turn
 from common.running import finished
+from common.texts import same
 from tools import machine
 from tools.progress import CRATE, LINE, READING, Progress
 from tools.side_by_side import MEMORY, jobs_that_fit
@@ -29,21 +30,15 @@ PLACES = {
     "bin/boxglue": None,
     "share/man/man1/boxglue.1": "docs/boxglue.1",
     "share/fish/vendor_completions.d/boxglue.fish": "completions/boxglue.fish",
-}
-PLACES |= {
     "share/bash-completion/completions/boxglue": "completions/boxglue.bash",
     "share/zsh/site-functions/_boxglue": "completions/_boxglue",
 }
 LIST = "share/boxglue/installed.tsv"
 # The files of the library, below the prefix; the version stands for itself, and LIBDIR for the
 # folder of libraries.
-(
-    SHARED,
-    STATIC,
-    WHEEL_FILE,
-    CARGO,
-) = KEPT = """
-    LIBDIR/libboxglue.so.1 LIBDIR/libboxglue.a share/boxglue/python/boxglue-1-py3-none-any.whl share/boxglue/rust/Cargo.toml""".split()
+KEPT = """
+    LIBDIR/libboxglue.so.1 LIBDIR/libboxglue.a
+    share/boxglue/python/boxglue-1-py3-none-any.whl share/boxglue/rust/Cargo.toml""".split()
 LIBRARY = {
     *KEPT,
     *"""
@@ -103,24 +98,16 @@ COPIED = """
 
 def files_below(folder):
     """The files of a folder."""
-    return {
-        os.path.relpath(f"{place}/{name}", folder)
-        for place, _, names in os.walk(folder)
-        for name in names
-    }
+    paths = [f"{place}/{name}" for place, _, names in os.walk(folder) for name in names]
+    return {os.path.relpath(it, folder) for it in paths}
 
 
 def check_places(prefix, root, program):
     """The files of the program are in place, and no others."""
-    found = files_below(prefix) ^ {*PLACES, LIST}
-    require(not found, f"these files are there or not there: {sorted(found)}")
+    equal("the files", sorted(files_below(prefix)), sorted([*PLACES, LIST]))
     for name, source in PLACES.items():
-        mode = 0o644 if source else 0o755
-        is_right = (
-            content(f"{prefix}/{name}") == content(f"{root}/{source}" if source else program)
-            and os.stat(f"{prefix}/{name}").st_mode & 0o777 == mode
-        )
-        require(is_right, f"{name} is not the file that it should be")
+        same(name, content(f"{prefix}/{name}"), content(f"{root}/{source}" if source else program))
+        equal(name, os.stat(f"{prefix}/{name}").st_mode & 0o777, 0o644 if source else 0o755)
 
 
 @dataclass(frozen=True)
@@ -134,19 +121,20 @@ class Ran:
     def __str__(self):
         return f"the status is {self.status}: {(self.errors or self.output)[-200:]!r}"
 
-    def is_silent(self):
-        """Whether it succeeded, and said nothing on standard error."""
-        return self.status == 0 and not self.errors
+    def check(self):
+        """It succeeds, and says nothing on standard error."""
+        require(self.status == 0 and not self.errors, self)
+
+    def check_refusal(self, why):
+        """It fails, and says why."""
+        require(self.status == 1 and why in self.errors, self)
 
 
 def install(root, words, room, path=None, **env):
     """Runs the script."""
-    ran = finished(
-        [f"{root}/install", *words],
-        cwd=room,
-        env={"HOME": f"{room}/home", "PATH": path or os.environ["PATH"], "ROOM": room, **env},
-        text=True,
-    )
+    path = path or os.environ["PATH"]
+    env = {"HOME": f"{room}/home", "PATH": path, "ROOM": room, **env}
+    ran = finished([f"{root}/install", *words], cwd=room, env=env, text=True)
     return Ran(ran.returncode, ran.stdout, ran.stderr)
 
 
@@ -154,24 +142,13 @@ def copies(root, words, prefix, program):
     """Installs a program twice, over itself. The installed program answers an empty script."""
     with tempfile.TemporaryDirectory(prefix="boxglue-install-") as room:
         for _ in range(2):
-            ran = install(
-                root,
-                [
-                    *(it.replace("ROOM", room) for it in words),
-                    "--program",
-                    os.path.relpath(program, room),
-                ],
-                room,
-            )
-            require(
-                ran.is_silent() and all(f"{room}/{prefix}/{it}\n" in ran.output for it in PLACES),
-                ran,
-            )
+            given = [it.replace("ROOM", room) for it in words]
+            ran = install(root, [*given, "--program", os.path.relpath(program, room)], room)
+            ran.check()
+            require(all(f"{room}/{prefix}/{it}\n" in ran.output for it in PLACES), ran)
         answer = finished([f"{room}/{prefix}/bin/boxglue"])
-        require(
-            (answer.returncode, answer.stdout) == (0, b"end: pages 0 bytes 0\n"),
-            "the program that was put in place does not answer",
-        )
+        found = answer.returncode, answer.stdout
+        equal("the program that was put in place", found, (0, b"end: pages 0 bytes 0\n"))
         check_places(f"{room}/{prefix}", root, program)
 
 
@@ -187,7 +164,8 @@ def refused(root, words, why, before=""):
     with tempfile.TemporaryDirectory(prefix="boxglue-install-") as room:
         write(f"{room}/given", before, 0o755)
         ran = install(root, [*words, "--prefix", f"{room}/here"], room)
-        require(ran.status == 1 and why in ran.errors and not os.path.exists(f"{room}/here"), ran)
+        ran.check_refusal(why)
+        require(not os.path.exists(f"{room}/here"), "something is put in place")
 
 
 class Site:
@@ -198,15 +176,11 @@ class Site:
         self.room, self.top, self.path = room, f"{room}/top", f"{room}/bin:{os.environ['PATH']}"
         for name in COPIED:
             write(f"{self.top}/{name}", content(f"{root}/{name}"), 0o755)
-        made = {
-            "crates.txt": CRATES,
-            "HANDLES": "Handles allowed: none.\n",
-            "bindings/rust/Cargo.toml": "[workspace]\n",
-        }
-        made |= {"tools/unproved.py": UNPROVED, "bindings/build": BUILD, "bindings/wheel": WHEEL}
-        made |= {
-            f"crates/{name}/src/lib.rt": f"// {name}\n" for name in (*NAMES, "other", "boxglue_c")
-        }
+        made = {"crates.txt": CRATES, "HANDLES": "Handles allowed: none.\n"}
+        made |= {"bindings/rust/Cargo.toml": "[workspace]\n", "tools/unproved.py": UNPROVED}
+        made |= {"bindings/build": BUILD, "bindings/wheel": WHEEL}
+        crates = (*NAMES, "other", "boxglue_c")
+        made |= {f"crates/{name}/src/lib.rt": f"// {name}\n" for name in crates}
         for name, text in made.items():
             write(f"{self.top}/{name}", text, 0o755)
         self.write("boxglue", ANSWERS)
@@ -218,56 +192,38 @@ class Site:
 
     def install(self, *words, path=None, **env):
         """Runs the script; `ROOM` in its words is the folder of all."""
-        return install(
-            self.top,
-            [it.replace("ROOM", self.room) for it in words],
-            self.room,
-            path or self.path,
-            **env,
-        )
+        given = [it.replace("ROOM", self.room) for it in words]
+        return install(self.top, given, self.room, path or self.path, **env)
+
+    def installs(self, *words, **env):
+        """Runs the script, which has to succeed."""
+        ran = self.install(*words, **env)
+        require(ran.status == 0, ran)
+        return ran
 
     def started(self):
         """Starts the script. A shell cannot trap a signal that was ignored when it began, as an
         interrupt is in the background jobs of a script."""
-        env, pipe = {
-            "HOME": f"{self.room}/home",
-            "PATH": self.path,
-            "ROOM": self.room,
-        }, subprocess.PIPE
-        return subprocess.Popen(
-            ["env", "--default-signal=INT", f"{self.top}/install"],
-            env=env,
-            stdin=subprocess.DEVNULL,
-            stdout=pipe,
-            stderr=pipe,
-            text=True,
-        )
+        env = {"HOME": f"{self.room}/home", "PATH": self.path, "ROOM": self.room}
+        pipes = {"stdin": subprocess.DEVNULL, "stdout": subprocess.PIPE, "stderr": subprocess.PIPE}
+        words = ["env", "--default-signal=INT", f"{self.top}/install"]
+        return subprocess.Popen(words, env=env, text=True, **pipes)
 
     def recorded(self, name="calls"):
         """The calls of `rt`, or the crates that it proved."""
-        return (
-            read(f"{self.room}/{name}").splitlines()
-            if os.path.exists(f"{self.room}/{name}")
-            else []
-        )
+        path = f"{self.room}/{name}"
+        return read(path).splitlines() if os.path.exists(path) else []
 
     def check_kept(self, names):
         """The proved work of these crates is kept in their folders, and no other."""
-        found = [
-            it
-            for it in sorted(os.listdir(f"{self.top}/crates"))
-            if os.path.exists(f"{self.top}/crates/{it}/out/rlib/stamp")
-        ]
-        require(
-            found == sorted(names) and not os.path.exists(f"{self.top}/out/proved"),
-            f"work is kept of {found}",
-        )
+        crates = f"{self.top}/crates"
+        found = [it for it in os.listdir(crates) if os.path.exists(f"{crates}/{it}/out/rlib/stamp")]
+        equal("the crates of which work is kept", sorted(found), sorted(names))
+        require(not os.path.exists(f"{self.top}/out/proved"), "out/proved is left")
 
     def check_proofs(self, *names):
         """These crates were proved, in this order."""
-        require(
-            self.recorded("proofs") == [*names], f"these were proved: {self.recorded('proofs')}"
-        )
+        equal("what was proved", self.recorded("proofs"), [*names])
 
     def check_places(self):
         """The program is installed in HOME."""
@@ -275,12 +231,10 @@ class Site:
 
     def check_library(self, prefix, libdir):
         """The program and the library are installed, the libraries in a folder."""
-        found = {
-            re.sub(r"so\.\d+\.\d+\.\d+", "so.VERSION", it)
-            for it in files_below(f"{self.room}/{prefix}")
-        }
-        wrong = sorted(found ^ {*PLACES, LIST, *(it.replace("LIBDIR", libdir) for it in LIBRARY)})
-        require(not wrong, f"these files are there or not there: {wrong}")
+        names = files_below(f"{self.room}/{prefix}")
+        found = {re.sub(r"so\.\d+\.\d+\.\d+", "so.VERSION", it) for it in names}
+        wanted = {*PLACES, LIST, *(it.replace("LIBDIR", libdir) for it in LIBRARY)}
+        equal("the files", sorted(found), sorted(wanted))
 
 
 def on_site(call, root, *words):
@@ -294,28 +248,17 @@ def proves(site):
     program is built, and all is installed. What is proved stays so."""
     for words in ([], ["--jobs", "3"]):
         ran = site.install(*words)
-        require(ran.is_silent(), ran)
+        ran.check()
         lines = [it.split("] ")[1] for it in ran.output.splitlines() if it.startswith("[")]
-        proved = [
-            name
-            for it in lines
-            if ": proved; " in it
-            for name in it.split(": proved; ")[0].split(", ")
-        ]
-        is_told = (
-            lines[0].startswith("4 crates, ")
-            and lines[-2].endswith(": proved; 0 of 4 left")
-            and lines[-1].startswith("boxglue: built, ")
-        )
-        require(proved == NAMES and is_told, f"the lines are {lines}")
+        proved = [it.split(": proved; ")[0].split(", ") for it in lines if ": proved; " in it]
+        equal("what the lines name", [name for names in proved for name in names], NAMES)
+        begins, ends = ("4 crates, ", "boxglue: built, "), ": proved; 0 of 4 left"
+        is_told = (lines[0].startswith(begins[0]), lines[-1].startswith(begins[1]))
+        require(all(is_told) and lines[-2].endswith(ends), f"the lines are {lines}")
     made = "\n".join(site.recorded())
-    require(
-        re.fullmatch(
-            r"all check --jobs [1-9]\d* proved\nrun boxglue\nall check --jobs 3 proved\nrun boxglue",
-            made,
-        ),
-        f"rt was called as {made!r}",
-    )
+    one_job = r"all check --jobs [1-9]\d* proved\nrun boxglue\n"
+    three = r"all check --jobs 3 proved\nrun boxglue"
+    require(re.fullmatch(one_job + three, made), f"rt was called as {made!r}")
     site.check_proofs(*NAMES, "boxglue")
     site.check_kept(NAMES[:3])
     site.check_places()
@@ -327,17 +270,11 @@ def stops_at_a_crate(site, name, before):
     site.write("bad", f"{name}\n")
     began = time.monotonic()
     ran = site.install()
-    require(
-        ran.status == 1
-        and f"{name} is not proved\nthe prover says why\n" in ran.errors
-        and time.monotonic() - began < 20,
-        ran,
-    )
+    ran.check_refusal(f"{name} is not proved\nthe prover says why\n")
+    require(time.monotonic() - began < 20, "it did not end soon")
     site.check_kept(before)
-    require(
-        len(site.recorded()) == 1 and not os.path.exists(f"{site.room}/home"),
-        f"rt was called as {site.recorded()}",
-    )
+    equal("the calls of rt", len(site.recorded()), 1)
+    require(not os.path.exists(f"{site.room}/home"), "something is put in place")
 
 
 def stops_when_told(site, number, lines):
@@ -353,17 +290,13 @@ def stops_when_told(site, number, lines):
         finally:
             # The end of the `with` waits for it.
             started.kill()
-    is_so = (
-        started.returncode == 128 + number
-        and time.monotonic() - began < 20
-        and all(line in it for line, it in zip(lines, found))
-    )
-    require(is_so, f"the status is {started.returncode}, the lines {found}")
+    equal("the status", started.returncode, 128 + number)
+    require(time.monotonic() - began < 20, "it did not end soon")
+    require(all(line in it for line, it in zip(lines, found)), f"the lines are {found}")
     site.check_kept(NAMES[:1])
     os.remove(f"{site.room}/slow")
-    ran = site.install()
+    site.installs()
     site.check_proofs("left", "right", *NAMES[1:])
-    require(ran.status == 0, f"started again: {ran}")
     site.check_places()
 
 
@@ -392,26 +325,17 @@ def goes_on_after_a_kill(site):
     site.write("top/out/proved/crates/left/src/old.rt", "old\n")
     with open(f"{site.top}/out/proved.lock", "w", encoding="ascii") as lock:
         fcntl.flock(lock, fcntl.LOCK_EX)
-        ran = site.install()
-        require(
-            ran.status == 1 and "another ./install" in ran.errors and not site.recorded(),
-            f"beside another run {ran}",
-        )
-    ran = site.install()
-    require(ran.status == 0, ran)
+        site.install().check_refusal("another ./install")
+        equal("the calls of rt beside another run", site.recorded(), [])
+    site.installs()
     site.check_proofs(*NAMES[1:])
     site.check_kept(NAMES[:3])
 
 
 def knows_what_is_left(_root):
     """What is proved at a time, and how long it goes on, as the lines of `rt` tell it."""
-    uses = {
-        "left": [],
-        "right": ["left"],
-        "other": [],
-        "upper": ["left", "right"],
-        "boxglue": ["upper", "other"],
-    }
+    uses = {"left": [], "right": ["left"], "other": []}
+    uses |= {"upper": ["left", "right"], "boxglue": ["upper", "other"]}
     with tempfile.TemporaryDirectory(prefix="boxglue-install-") as room:
         for name in uses:
             write(f"{room}/crates/{name}/src/lib.rt", "\n")
@@ -426,57 +350,41 @@ def knows_what_is_left(_root):
         for more, names, left in wanted:
             text += more
             found.update(text)
-            if {*found.under_way()} != {*names} or abs(found.seconds_left() - left) > 1:
-                return f"after {text!r}: {found.under_way()}, {found.seconds_left()} s"
+            equal(f"after {text!r}", {*found.under_way()}, {*names})
+            seconds = found.seconds_left()
+            require(abs(seconds - left) <= 1, f"after {text!r}: {seconds} s are left")
         write(f"{room}/crates/right/out/rlib/stamp", "")
-        if found.failed() == ["left", "other"] or found.failed() == ["other", "left"]:
-            return None
-        return f"these have failed: {found.failed()}"
+        equal("what has failed", sorted(found.failed()), ["left", "other"])
 
 
 def fits_a_control_group(_root):
     """No more is proved at a time than the time and the memory that a control group leaves."""
     found, was = [], machine.GROUP
     with tempfile.TemporaryDirectory(prefix="boxglue-install-") as machine.GROUP:
-        for quota, limit in (
-            ("max", "max"),
-            ("100000", "max"),
-            ("max", str(2 * MEMORY)),
-            ("50000", "0"),
-        ):
+        limits = ("max", "max"), ("100000", "max"), ("max", str(2 * MEMORY)), ("50000", "0")
+        for quota, limit in limits:
             write(f"{machine.GROUP}/cpu.max", f"{quota} 100000\n")
             write(f"{machine.GROUP}/memory.max", f"{limit}\n")
             write(f"{machine.GROUP}/memory.stat", f"file 5\nanon {MEMORY}\n")
             found.append((machine.cores(), jobs_that_fit()))
     machine.GROUP = was
-    cores = found[0][0]
-    wanted = [
-        cores >= found[0][1] >= 1,
-        found[1] == (1, 1),
-        found[2] == (cores, 1),
-        found[3] == (1, 1),
-    ]
-    return None if all(wanted) else f"cores, and proofs at a time, are {found}"
+    cores, most = found[0]
+    require(cores >= most >= 1, f"of {cores} cores so many prove at a time: {most}")
+    equal("cores, and proofs at a time", found[1:], [(1, 1), (cores, 1), (1, 1)])
 
 
 def builds_unproved(site):
     """Without proofs nothing is proved, and the last lines say what was built and how to have the
     proved program."""
     ran = site.install("--unproved", "--prefix", "ROOM/here")
-    require(
-        ran.is_silent() and site.recorded() == ["unproved "],
-        f"what was called is {site.recorded()}; {ran}",
-    )
-    found = files_below(f"{site.room}/here")
-    require(
-        found == {*PLACES, LIST} and SAYS.encode() in content(f"{site.room}/here/bin/boxglue"),
-        f"these files are there: {sorted(found)}",
-    )
+    ran.check()
+    equal("what was called", site.recorded(), ["unproved "])
+    equal("the files", files_below(f"{site.room}/here"), {*PLACES, LIST})
+    said = SAYS.encode() in content(f"{site.room}/here/bin/boxglue")
+    require(said, "the program does not say that it is unproved")
     last = ran.output.splitlines()[-2:]
-    require(
-        "UNPROVED" in last[0] and last[1].endswith(f": ./install --prefix {site.room}/here"),
-        f"the last lines are {last}",
-    )
+    is_told = "UNPROVED" in last[0] and last[1].endswith(f": ./install --prefix {site.room}/here")
+    require(is_told, f"the last lines are {last}")
 
 
 def keeps_what_is_proved(site):
@@ -493,15 +401,11 @@ def keeps_what_is_proved(site):
     )
     for words, wanted in (*ways, ways[0]):
         ran = site.install(*words.split())
-        found = (
-            ran.status,
-            SAYS.encode() in content(f"{site.room}/home/.local/bin/boxglue"),
-            "--replace" in ran.errors,
+        is_unproved = SAYS.encode() in content(f"{site.room}/home/.local/bin/boxglue")
+        what = (
+            f"{words}: the status, whether the program is unproved, and whether --replace is named"
         )
-        require(
-            found == wanted,
-            f"{words}: the status, whether the program is unproved, and whether --replace is named, are {found}",
-        )
+        equal(what, (ran.status, is_unproved, "--replace" in ran.errors), wanted)
 
 
 def puts_the_library(site):
@@ -509,64 +413,43 @@ def puts_the_library(site):
     use is proved once, and an old wheel goes."""
     stage = f"{site.room}/stage"
     site.write("stage/usr/share/boxglue/python/boxglue-0-py3-none-any.whl", "old\n")
-    ran = site.install("--library", "--prefix", "/usr", DESTDIR=stage)
-    require(
-        ran.status == 0 and site.recorded()[1:] == ["run boxglue", "lib boxglue_c"],
-        f"rt was called as {site.recorded()}; {ran}",
-    )
+    ran = site.installs("--library", "--prefix", "/usr", DESTDIR=stage)
+    equal("the calls of rt", site.recorded()[1:], ["run boxglue", "lib boxglue_c"])
     site.check_proofs(*NAMES, "boxglue_c")
     site.check_library("stage/usr", "lib")
-    is_found = read(f"{stage}/usr/lib/pkgconfig/boxglue.pc").startswith(
-        "prefix=${pcfiledir}/../..\n"
-    ) and os.listdir(stage) == ["usr"]
-    require(
-        is_found,
-        "boxglue.pc does not find the prefix by its own place, or a file is not below the prefix",
-    )
-    require(
-        "pip install /usr/share/boxglue/python/boxglue-1-py3-none-any.whl\n" in ran.output,
-        f"it prints {ran.output[-300:]!r}",
-    )
+    line = read(f"{stage}/usr/lib/pkgconfig/boxglue.pc").splitlines()[0]
+    equal("the prefix in boxglue.pc", line, "prefix=${pcfiledir}/../..")
+    equal("what is below DESTDIR", os.listdir(stage), ["usr"])
+    line = "pip install /usr/share/boxglue/python/boxglue-1-py3-none-any.whl\n"
+    require(line in ran.output, f"it prints {ran.output[-300:]!r}")
 
 
 def puts_the_library_elsewhere(site):
     """With --libdir the library is in another folder below the prefix, which its files and the
     crates find by their places; a folder elsewhere is refused."""
-    words, here = (
-        "--program ROOM/boxglue --library ROOM/boxglue --prefix ROOM/here --libdir".split(),
-        f"{site.room}/here",
-    )
+    here = f"{site.room}/here"
+    words = "--program ROOM/boxglue --library ROOM/boxglue --prefix ROOM/here --libdir".split()
     for wrong in ("../lib", "/lib", "."):
-        require(
-            site.install(*words, wrong).status == 1 and not os.path.exists(here),
-            f"--libdir {wrong} is not refused",
-        )
+        equal(f"the status of --libdir {wrong}", site.install(*words, wrong).status, 1)
+        require(not os.path.exists(here), f"something is put in place for --libdir {wrong}")
     for libdir in ("lib/some-linux", f"{here}/lib/some-linux"):
-        ran = site.install(*words, libdir)
-        require(ran.status == 0, ran)
+        site.installs(*words, libdir)
         site.check_library("here", "lib/some-linux")
-    config, lines = (
-        read(f"{here}/lib/some-linux/{it}")
-        for it in ("cmake/boxglue/boxglue-config.cmake", "pkgconfig/boxglue.pc")
-    )
-    found = *lines.splitlines()[0:3:2], read(f"{here}/share/boxglue/rust/boxglue-sys/libdir")
-    wanted = (
-        "prefix=${pcfiledir}/../../..",
-        "libdir=${prefix}/lib/some-linux",
-        "../../../../lib/some-linux\n",
-    )
+    folder = f"{here}/lib/some-linux"
+    config = read(f"{folder}/cmake/boxglue/boxglue-config.cmake")
+    lines = read(f"{folder}/pkgconfig/boxglue.pc").splitlines()[0:3:2]
+    found = [*lines, read(f"{here}/share/boxglue/rust/boxglue-sys/libdir")]
+    wanted = ["prefix=${pcfiledir}/../../..", "libdir=${prefix}/lib/some-linux"]
+    equal("what the files name", found, [*wanted, "../../../../lib/some-linux\n"])
     is_named = '/../../../.."' in config and "lib/some-linux/libboxglue.a" in config
-    require(found == wanted and is_named, f"the files name {found}, and CMake's {config}")
+    require(is_named, f"CMake's file is {config}")
 
 
 def needs_no_rt(site):
     """Where program and archive are built already, no `rt` is asked for."""
     os.remove(f"{site.room}/bin/rt")
-    ran = site.install(
-        *"--program ROOM/boxglue --library ROOM/boxglue --prefix ROOM/here".split(),
-        path=without_rt(site.path, f"{site.room}/tools"),
-    )
-    require(ran.status == 0, ran)
+    words = "--program ROOM/boxglue --library ROOM/boxglue --prefix ROOM/here".split()
+    site.installs(*words, path=without_rt(site.path, f"{site.room}/tools"))
     site.check_library("here", "lib")
 
 
@@ -590,25 +473,19 @@ def keeps_what_is_proved_of_the_library(site):
     other is left; a proved one takes the place of any."""
     site.write("unproved.a", f"{SAYS}\n")
     site.write("proved.a", "proved\n")
-    prefix, words = (
-        f"{site.room}/here",
-        "--program ROOM/boxglue --prefix ROOM/here --library".split(),
-    )
+    prefix = f"{site.room}/here"
+    words = "--program ROOM/boxglue --prefix ROOM/here --library".split()
     names = [it.replace("LIBDIR", "lib") for it in KEPT]
     for kept in names:
-        ran = site.install(*words, "ROOM/proved.a")
-        require(ran.status == 0, f"a proved library is not put in place: {ran}")
+        site.installs(*words, "ROOM/proved.a")
         for it in {*names} - {kept}:
             os.remove(f"{prefix}/{it}")
         before = files_below(prefix)
         ran = site.install(*words, "ROOM/unproved.a")
-        require(
-            (ran.status, "--replace" in ran.errors, files_below(prefix)) == (1, True, before),
-            f"{kept} does not stay: {ran}",
-        )
+        ran.check_refusal("--replace")
+        equal(f"the files beside {kept}", files_below(prefix), before)
         for more in (["--replace"], []):
-            ran = site.install(*words, "ROOM/unproved.a", *more)
-            require(ran.status == 0, f"with --replace, or after it: {ran}")
+            site.installs(*words, "ROOM/unproved.a", *more)
         line = f"unproved\t{kept}\n".replace("boxglue-1-", "boxglue-1.dev0+unproved-")
         require(line in read(f"{prefix}/{LIST}"), f"the list does not say that {kept} is unproved")
 
@@ -618,26 +495,17 @@ def removes(site):
     file outside is refused."""
     site.write("here/bin/other", "kept\n")
     for more in ("", "--library ROOM/boxglue --libdir lib64", "--library ROOM/boxglue"):
-        ran = site.install(*"--program ROOM/boxglue --prefix ROOM/here".split(), *more.split())
-        require(ran.status == 0, ran)
-    remove = "--uninstall", "--prefix", "ROOM/here"
-    found, again = site.install(*remove), site.install(*remove)
-    folders = {
-        os.path.relpath(it, f"{site.room}/here") for it, _, _ in os.walk(f"{site.room}/here")
-    }
-    require(
-        found.status == 0
-        and (files_below(f"{site.room}/here"), folders) == ({"bin/other"}, {".", "bin"}),
-        f"{folders} are left; {found}",
-    )
-    require(again.status == 1 and "installed.tsv is not there" in again.errors, again)
+        site.installs(*"--program ROOM/boxglue --prefix ROOM/here".split(), *more.split())
+    remove, here = ("--uninstall", "--prefix", "ROOM/here"), f"{site.room}/here"
+    site.installs(*remove)
+    equal("the files that are left", files_below(here), {"bin/other"})
+    folders = {os.path.relpath(it, here) for it, _, _ in os.walk(here)}
+    equal("the folders that are left", folders, {".", "bin"})
+    site.install(*remove).check_refusal("installed.tsv is not there")
     site.write(f"here/{LIST}", "text\t../outside\n")
     site.write("outside", "kept\n")
-    ran = site.install(*remove)
-    require(
-        ran.status == 1 and "is not below" in ran.errors and os.path.exists(f"{site.room}/outside"),
-        f"a list that names a file outside: {ran}",
-    )
+    site.install(*remove).check_refusal("is not below")
+    require(os.path.exists(f"{site.room}/outside"), "a file outside is removed")
 
 
 def cases(programs, root):
@@ -648,10 +516,11 @@ def cases(programs, root):
     yield "a program", copied(["--prefix", "ROOM/a folder"], "a folder")
     yield "a program, without a folder", copied([], "home/.local")
     yield "a file that is not there", wrong("absent", "absent cannot be run")
-    no_program = wrong("given", "given cannot be run", "end: pages 0 bytes 0\n")
-    yield "a file that is no program", no_program
-    another = wrong("given", "given is not boxglue", "#!/bin/sh\necho end: pages 1 bytes 0\n")
-    yield "another program", another
+    yield "a file that is no program", wrong(
+        "given", "given cannot be run", "end: pages 0 bytes 0\n"
+    )
+    another = "#!/bin/sh\necho end: pages 1 bytes 0\n"
+    yield "another program", wrong("given", "given is not boxglue", another)
     yield "crates in order", site(proves)
     yield "a crate that is not proved", site(stops_at_a_crate, "right", ["left"])
     yield "a program that is not proved", site(stops_at_a_crate, "boxglue", NAMES[:3])

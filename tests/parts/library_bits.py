@@ -11,7 +11,7 @@ from common.library_inputs import Room, all_inputs
 from common.part import in_turn
 from common.texts import same
 from models.dvi_reader import list_file
-from models.large_inputs import covered, painted_row
+from models.large_inputs import painted_rows
 from parts.library_calls import ONE_SHEET
 from parts.library_growths import count_wrong, run_calls, write_dvi
 
@@ -21,12 +21,16 @@ NEEDS_PROGRAM = True
 SPLIT = in_turn(4)
 # Pixels an inch, width and height: rows of less than a byte, of whole bytes, and of one pixel more
 # or less; words and one pixel more.
-SHEETS = [
-    (*map(int, it.split()),)
-    for it in "72 1 1,72 7 9,72 8 20,100 9 40,300 64 33,300 65 120,37 131 50,1000 257 300".split(
-        ","
-    )
-]
+SHEETS = (
+    (72, 1, 1),
+    (72, 7, 9),
+    (72, 8, 20),
+    (100, 9, 40),
+    (300, 64, 33),
+    (300, 65, 120),
+    (37, 131, 50),
+    (1000, 257, 300),
+)
 # A page of A4 at 300 dots an inch: its bitmap has 1,087,480 bytes.
 LARGE_SHEETS, LARGE_INPUT = ((300, 2480, 3508),), "ruled_table.box"
 RULE = re.compile(r"^rule (-?\d+) (-?\d+) (\d+) (\d+)$", re.M)
@@ -36,9 +40,8 @@ NO_PAGE = b"5 0 0\n"
 def bits_of(rules, dpi, width, height):
     """The bytes of a bitmap: of each row the digits in groups of eight, the last one filled up with
     0. Rules are (h, v, height, width)."""
-    spans, size = list(covered(rules, dpi)), -(-width // 8)
-    for at in range(height):
-        row = painted_row([columns for lines, columns in spans if at in lines], width)
+    size = -(-width // 8)
+    for row in painted_rows(rules, dpi, width, height):
         yield int(row.ljust(8 * size, b"0"), 2).to_bytes(size, "big")
 
 
@@ -56,15 +59,10 @@ def wanted(data, fonts, sheet):
 
 def bits_wrong(sheets, room, given, data, run):
     """What is wrong with the bitmaps of a file on these sheets."""
-    for dpi, width, height in sheets:
-        printed = run(
-            ["paint_bits", "1", str(dpi), str(width), str(height), "out.dvi", *room.fonts]
-        )
-        same(
-            f"{width} by {height} pixels at {dpi} dpi",
-            printed,
-            wanted(data, given.fonts, (dpi, width, height)),
-        )
+    for sheet in sheets:
+        printed = run(["paint_bits", "1", *map(str, sheet), "out.dvi", *room.fonts])
+        what = "{1} by {2} pixels at {0} dpi".format(*sheet)
+        same(what, printed, wanted(data, given.fonts, sheet))
     return count_wrong(run(["--refuse", "paint_bits", *ONE_SHEET, "out.dvi", *room.fonts]))
 
 
@@ -86,18 +84,15 @@ def numbers(root, archive=None, *_programs):
         room = Room(path, next(it for it in all_inputs(root) if it.name == "one_rule_page.box"))
         write_dvi(root, archive, room)
         for words, status in (
-            (("0", "72", "1", "1"), 6),
-            (("1", "0", "1", "1"), 6),
-            (("1", "10001", "1", "1"), 6),
-            (("1", "72", "0", "1"), 6),
-            (("1", "72", "1", "10001"), 6),
-            (("2", "72", "1", "1"), 5),
+            ("0 72 1 1", 6),
+            ("1 0 1 1", 6),
+            ("1 10001 1 1", 6),
+            ("1 72 0 1", 6),
+            ("1 72 1 10001", 6),
+            ("2 72 1 1", 5),
         ):
-            same(
-                " ".join(words),
-                run_calls(root, archive, room, ["paint_bits", *words, "out.dvi"]),
-                b"%d 0 0\n" % status,
-            )
+            call = ["paint_bits", *words.split(), "out.dvi"]
+            same(words, run_calls(root, archive, room, call), b"%d 0 0\n" % status)
     return None
 
 
@@ -106,10 +101,8 @@ def cases(programs, root):
     inputs = {given.name: given for given in all_inputs(root)}
     for name, given in inputs.items():
         yield name, partial(outcome, SHEETS, bytes, given, root, *programs)
-    yield f"{LARGE_INPUT}_on_a_large_sheet", partial(
-        outcome, LARGE_SHEETS, bytes, inputs[LARGE_INPUT], root, *programs
-    )
-    yield "a_file_without_its_end", partial(
-        outcome, SHEETS, lambda data: data[:-9], next(iter(inputs.values())), root, *programs
-    )
+    large = partial(outcome, LARGE_SHEETS, bytes, inputs[LARGE_INPUT], root, *programs)
+    yield f"{LARGE_INPUT}_on_a_large_sheet", large
+    first, cut_off = next(iter(inputs.values())), lambda data: data[:-9]
+    yield "a_file_without_its_end", partial(outcome, SHEETS, cut_off, first, root, *programs)
     yield "numbers", partial(numbers, root, *programs)

@@ -20,12 +20,11 @@ LOW_RULES = [down(5 * PT), LOW_RULE, down(15 * PT), LOW_RULE]
 KERNS = [down(PT), RULE, *[right(2 * PT), RULE] * 3]
 SPECIALS = [special(bytes(255)), special(bytes(256))]
 SHIFTED = [[down(3 * PT), RULE], [], right(4 * PT), *ONE_RULE]
-LINES = (([select(0)], 0x3C000), ([], 0x3C000), ([], 0x32000))
 THREE_LINES = [
-    [down((5 + 12 * at) * PT), *first, C, right(amount), C]
-    for at, (first, amount) in enumerate(LINES)
+    [down((5 + 12 * at) * PT), *[select(0)] * (at == 0), C, right(amount), C]
+    for at, amount in enumerate((0x3C000, 0x3C000, 0x32000))
 ]
-# For a file: its pages, the greatest height plus depth and width, the place of post, and the length.
+# For a file: its pages, the greatest height plus depth and width, the place of post, its length.
 FILES = {
     "one_rule": ([Page(ONE_RULE)], PT, PT, 74, 116),
     "four_rules_with_kerns": ([Page(KERNS)], PT, 10 * PT, 107, 148),
