@@ -24,11 +24,8 @@ def compiler():
 
 def lacking():
     """Why nothing can be built here, or None."""
-    missing = [
-        name
-        for name, found in (("C compiler", compiler()), ("rt", shutil.which("rt")))
-        if not found
-    ]
+    tools = {"C compiler": compiler(), "rt": shutil.which("rt")}
+    missing = [name for name, found in tools.items() if not found]
     return Skipped(f"no {' and no '.join(missing)}") if missing else None
 
 
@@ -53,18 +50,8 @@ def run_build(words):
 def compile_c(root, archive, sources, out, flags):
     """Compiles a program in C with the library. Returns what is wrong, or None."""
     need_compiler()
-    words = [
-        compiler(),
-        *"-std=c11 -O1 -g -Wall -Wextra -Werror".split(),
-        *flags,
-        f"-I{root}/include",
-        "-o",
-        out,
-        *sources,
-        archive,
-        heap_archive(),
-    ]
-    return run_build(words)
+    flags = [*"-std=c11 -O1 -g -Wall -Wextra -Werror".split(), *flags, f"-I{root}/include"]
+    return run_build([compiler(), *flags, "-o", out, *sources, archive, heap_archive()])
 
 
 def object_words(root, source, folder):
@@ -109,15 +96,9 @@ def build_unproved(root, kind):
     once."""
 
     def make(out):
-        status, _, errors = run_tried(
-            [
-                sys.executable,
-                f"{root}/tools/unproved.py",
-                *(["--library"] if kind == "library" else []),
-                out,
-            ],
-            root,
-        )
+        kinds = ["--library"] if kind == "library" else []
+        words = [sys.executable, f"{root}/tools/unproved.py", *kinds, out]
+        status, _, errors = run_tried(words, root)
         return f"the {kind} is not built without proofs: {last_lines(errors)}" if status else None
 
     return once("libboxglue_c.a" if kind == "library" else "boxglue.unproved", make)

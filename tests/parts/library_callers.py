@@ -9,15 +9,8 @@ from functools import partial
 from xml.etree import ElementTree
 
 from common.files import content, read, write
-from common.library_build import (
-    build_shared,
-    compile_c,
-    heap_archive,
-    object_words,
-    python_words,
-    run_build,
-    rust_client,
-)
+from common.library_build import build_shared, compile_c, heap_archive, object_words, python_words
+from common.library_build import run_build, rust_client
 from common.outcome import lacks, need, without
 from common.part import in_turn
 from common.running import finished
@@ -107,32 +100,28 @@ def refused_in_c(name, line, others, root, archive, folder):
     for other in others:
         write(f"{folder}/caller.c", text.replace(line, other))
         wrong = compile_c(root, archive, [f"{folder}/caller.c"], f"{folder}/caller", [])
-        status = (
-            None if wrong else finished([f"{folder}/caller"], cwd=folder, timeout=LIMIT).returncode
-        )
-        if wrong or line not in text or status != 1 or os.path.exists(f"{folder}/page.dvi"):
-            return (
-                wrong
-                or f"with {other!r} the status is {status}, and page.dvi is {'there' if os.path.exists(f'{folder}/page.dvi') else 'not there'}"
-            )
+        if wrong or line not in text:
+            return wrong or f"no {line!r} is in the caller"
+        status = finished([f"{folder}/caller"], cwd=folder, timeout=LIMIT).returncode
+        is_there = "there" if os.path.exists(f"{folder}/page.dvi") else "not there"
+        if (status, is_there) != (1, "not there"):
+            return f"with {other!r} the status is {status}, and page.dvi is {is_there}"
     return None
 
 
 def caller_in_python(root, archive, folder):
     write(f"{folder}/caller.py", text_of(root, "python"))
     words, env = python_words(root, archive, [f"{folder}/caller.py"])
-    return run_wrong(
-        words, env, b"65536 2.0pt\n0 Rule(h=0, v=131072, height=131072, width=65536)\n", folder
-    )
+    wanted = b"65536 2.0pt\n0 Rule(h=0, v=131072, height=131072, width=65536)\n"
+    return run_wrong(words, env, wanted, folder)
 
 
 def caller_in_rust(root, archive, folder):
     need("cargo")
     words = rust_client(folder, f"{root}/bindings/rust/boxglue", text_of(root, "rs"))
     env = {**os.environ, "BOXGLUE_LIB_DIR": folder, "CARGO_TARGET_DIR": f"{folder}/target"}
-    return run_build(
-        [f"{root}/bindings/build", "--static", archive, f"{folder}/libboxglue.a"]
-    ) or run_wrong(words, env, b"1.0pt\nend: pages 1 bytes 116\n")
+    build = [f"{root}/bindings/build", "--static", archive, f"{folder}/libboxglue.a"]
+    return run_build(build) or run_wrong(words, env, b"1.0pt\nend: pages 1 bytes 116\n")
 
 
 def null_pointers(language, root, archive, folder):
@@ -142,32 +131,21 @@ def null_pointers(language, root, archive, folder):
     steps = f"{root}/tests/clients"
     wraps = [f"-Wl,--wrap=boxglue_{it}" for it in SYMBOLS]
     objects, out = [f"{folder}/null_{it}.o" for it in ("pointers", "symbols")], f"{folder}/calls"
-    return (
-        run_build(
-            [compiler, *flags, *WARNINGS, *object_words(root, f"{steps}/null_pointers.c", folder)]
-        )
-        or run_build(
-            ["cc", "-std=c11", *WARNINGS, *object_words(root, f"{steps}/null_symbols.c", folder)]
-        )
-        or run_build([compiler, "-o", out, *objects, archive, heap_archive(), *wraps])
-        or run_wrong([out], wanted=NULL_CALLS)
-    )
+    compilers = {"pointers": [compiler, *flags], "symbols": ["cc", "-std=c11"]}
+    for name, words in compilers.items():
+        source = object_words(root, f"{steps}/null_{name}.c", folder)
+        wrong = run_build([*words, *WARNINGS, *source])
+        if wrong:
+            return wrong
+    link = [compiler, "-o", out, *objects, archive, heap_archive(), *wraps]
+    return run_build(link) or run_wrong([out], wanted=NULL_CALLS)
 
 
 def binding(tests, root, archive, folder):
     """Runs tests of the binding."""
-    words, env = python_words(
-        root,
-        archive,
-        [
-            *"-m unittest discover -q -s".split(),
-            f"{root}/bindings/python/tests",
-            "-t",
-            f"{root}/bindings/python",
-            "-p",
-            tests,
-        ],
-    )
+    top = f"{root}/bindings/python"
+    given = ["-m", "unittest", "discover", "-q", "-s", f"{top}/tests", "-t", top, "-p", tests]
+    words, env = python_words(root, archive, given)
     return run_wrong(words, env, wanted=b"", folder=folder)
 
 
@@ -198,16 +176,9 @@ def client(text, least, root, archive, folder):
     write(f"{folder}/plain.tfm", metric_file())
     write(f"{folder}/text.md", text(root))
     fonts = [f"--{name}={folder}/plain.tfm" for name in ("text", "bold", "italic", "code")]
-    words, env = python_words(
-        root,
-        archive,
-        [
-            f"{root}/examples/markdown/markdown_page.py",
-            *fonts,
-            f"{folder}/text.md",
-            f"{folder}/text.dvi",
-        ],
-    )
+    program = f"{root}/examples/markdown/markdown_page.py"
+    files = [f"{folder}/text.md", f"{folder}/text.dvi"]
+    words, env = python_words(root, archive, [program, *fonts, *files])
     wrong = run_wrong(words, env, wanted=b"")
     if wrong:
         return wrong
@@ -225,11 +196,8 @@ def driver(root, archive, folder):
     )
     words, env = python_words(root, archive, [f"{folder}/page.py"])
     wrong = run_wrong(words, env, wanted=b"", folder=folder, given=script.encode())
-    words, env = python_words(
-        root,
-        archive,
-        [f"{root}/examples/library/svg_pages.py", "page.dvi", "page", "cmtt10=plain.tfm"],
-    )
+    given = [f"{root}/examples/library/svg_pages.py", "page.dvi", "page", "cmtt10=plain.tfm"]
+    words, env = python_words(root, archive, given)
     wrong = wrong or run_wrong(words, env, wanted=b"", folder=folder)
     if wrong:
         return wrong
@@ -241,8 +209,7 @@ def driver(root, archive, folder):
 
 def size_of_client(most, root, _archive, _folder):
     """The client for Markdown has at most so many lines. They were 140 of at most 150 columns
-    before
-    black wrote them in 100."""
+    before black wrote them in 100."""
     count = len(read(f"{root}/examples/markdown/markdown_page.py").splitlines())
     return None if count <= most else f"it has {count} lines"
 
@@ -266,12 +233,11 @@ def outcome(call, root, archive=None, *_programs):
 
 def cases(programs, root):
     """The callers."""
+    bad_ship = "c", "ship(&page, 0)", ["ship(&page, 7)"]
     scripts = "rule 1pt 1pt 0pt", ("rule 1em 1pt 0pt", "penalty 0\\nunhbox 7\\npar")
     calls = {
         "LIBRARY.md in C": partial(caller_in_c, "c", b"65536 sp wide\n"),
-        "LIBRARY.md in C, refused": partial(
-            refused_in_c, "c", "ship(&page, 0)", ["ship(&page, 7)"]
-        ),
+        "LIBRARY.md in C, refused": partial(refused_in_c, *bad_ship),
         "examples/library/job.c": partial(caller_in_c, "job.c", WANTED),
         "examples/library/job.c, refused": partial(refused_in_c, "job.c", *scripts),
         "LIBRARY.md in Python": caller_in_python,

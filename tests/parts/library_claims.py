@@ -19,7 +19,7 @@ from common.library_build import compiler, rust_client
 from common.outcome import Wrong, need, without
 from common.part import in_turn
 from common.running import finished
-from parts.library_packages import LIMIT, outcome, run
+from parts.library_packages import LIMIT, cargo, compiled, line_of, outcome, run
 from tools.exports import calls
 from tools.unproved import SAYS
 from tools.version import dotted, number
@@ -40,46 +40,34 @@ int main(void) {
 PRINT_RUST = (
     'fn main() {\n    println!("{} {}", boxglue::version(), u32::from(boxglue::is_proved()));\n}\n'
 )
-NO_NETWORK = {
-    "PIP_NO_INDEX": "1",
-    "PIP_DISABLE_PIP_VERSION_CHECK": "1",
-    "PIP_CONFIG_FILE": os.devnull,
-    "PIP_NO_CACHE_DIR": "1",
-}
+NO_NETWORK = {"PIP_NO_INDEX": "1", "PIP_DISABLE_PIP_VERSION_CHECK": "1", "PIP_NO_CACHE_DIR": "1"}
+NO_NETWORK |= {"PIP_CONFIG_FILE": os.devnull}
+PIP_WHEEL = "-m pip wheel --no-deps --wheel-dir".split()
 
 
-def lacks_pip():
-    """The result of a case that needs pip, if it is not there."""
+def need_pip():
+    """Skips the case unless pip is there."""
     if finished([sys.executable, "-m", "pip", "--version"], timeout=LIMIT).returncode:
-        return without("pip")
-    return None
+        raise without("pip")
 
 
 def stand_in(root, path, is_proved, value=None):
     """A shared object in place of the library, with this version and this answer; and with the
     symbol of one that is not proved."""
-    answers = {
-        **dict.fromkeys(calls(root), 0),
-        "boxglue_version": value or number(root),
-        "boxglue_proved": int(is_proved),
-    }
-    os.makedirs(os.path.dirname(path), exist_ok=True)
-    with open(f"{path}.c", "w", encoding="ascii") as it:
-        it.writelines(
-            f"unsigned {name}(void) {{ return {answer}; }}\n" for name, answer in answers.items()
-        )
-        it.write("" if is_proved else f'const char boxglue_unproved[] = "{SAYS}";\n')
-    run(
-        [compiler(), *"-shared -fPIC -Wl,-soname,libboxglue.so.1 -o".split(), path, f"{path}.c"],
-        os.path.dirname(path),
-    )
+    answers = dict.fromkeys(calls(root), 0)
+    answers |= {"boxglue_version": value or number(root), "boxglue_proved": int(is_proved)}
+    lines = [f"unsigned {name}(void) {{ return {it}; }}\n" for name, it in answers.items()]
+    symbol = "" if is_proved else f'const char boxglue_unproved[] = "{SAYS}";\n'
+    write(f"{path}.c", "".join(lines) + symbol)
+    flags = "-shared -fPIC -Wl,-soname,libboxglue.so.1 -o".split()
+    run([compiler(), *flags, path, f"{path}.c"], os.path.dirname(path))
     os.remove(f"{path}.c")
     return path
 
 
 def wheel_of(root, library, folder):
     """The wheel of a library."""
-    return run([sys.executable, f"{root}/bindings/wheel", library, folder], folder).decode().strip()
+    return line_of([sys.executable, f"{root}/bindings/wheel", library, folder], folder)
 
 
 def new_environment(folder):
@@ -95,30 +83,22 @@ def pip(python, words, room, **env):
 
 def version_in(python, room):
     """The version of the package that an environment has."""
-    return (
-        run(
-            [python, "-c", "from importlib import metadata; print(metadata.version('boxglue'))"],
-            room,
-        )
-        .decode()
-        .strip()
-    )
+    asks = "from importlib import metadata; print(metadata.version('boxglue'))"
+    return line_of([python, "-c", asks], room)
 
 
 def wheels_wrong(root, prefix, said, room):
     """What pip does with a proved and an unproved wheel of one version: it prefers the proved one,
     whichever comes first."""
-    if lacks_pip():
-        return lacks_pip()
+    need_pip()
     version, folders = dotted(root), (f"{room}/proved", f"{room}/unproved")
     _, unproved = (
         wheel_of(root, stand_in(root, f"{it}/libboxglue.so", it.endswith("/proved")), it)
         for it in folders
     )
     for at, names in enumerate((folders, folders[::-1])):
-        python, links = new_environment(f"{room}/environment-{at}"), [
-            it for name in names for it in ("--find-links", name)
-        ]
+        python = new_environment(f"{room}/environment-{at}")
+        links = [it for name in names for it in ("--find-links", name)]
         newest = ["--upgrade", *links, "boxglue"]
         runs = (
             ([*links, "boxglue"], version),
@@ -144,25 +124,16 @@ def wheels_in(folder):
     found = {}
     for path in glob.glob(f"{folder}/*.whl"):
         with zipfile.ZipFile(path) as it:
-            version = re.search(
-                r'__version__ = "([^"]+)"', it.read("boxglue/__init__.py").decode()
-            )[1]
-            found[os.path.basename(path)] = (
-                os.path.basename(path).startswith(f"boxglue-{version}-")
-                and "boxglue/libboxglue.so" in it.namelist()
-            )
+            text = it.read("boxglue/__init__.py").decode()
+            has_library = "boxglue/libboxglue.so" in it.namelist()
+        name, version = os.path.basename(path), re.search(r'__version__ = "([^"]+)"', text)[1]
+        found[name] = name.startswith(f"boxglue-{version}-") and has_library
     return found
 
 
 def refused_wheel(source, words, why, room, **env):
     """What is wrong where pip should refuse to make a wheel, and say why."""
-    words = [
-        sys.executable,
-        *"-m pip wheel --no-deps --wheel-dir".split(),
-        f"{room}/refused",
-        *words,
-        source,
-    ]
+    words = [sys.executable, *PIP_WHEEL, f"{room}/refused", *words, source]
     kept = {name: value for name, value in os.environ.items() if name != "BOXGLUE_LIBRARY"}
     ran = finished(words, cwd=room, env={**kept, **NO_NETWORK, **env}, text=True, timeout=LIMIT)
     if not ran.returncode or wheels_in(f"{room}/refused"):
@@ -176,15 +147,14 @@ def refused_wheel(source, words, why, room, **env):
 def backend_wrong(root, prefix, said, room):
     """What is wrong with wheels that pip makes of the folder: they are the one of ./install, or
     there is a clear error."""
-    if lacks_pip():
-        return lacks_pip()
+    need_pip()
     (wheel,) = glob.glob(f"{prefix}/share/boxglue/python/*.whl")
     left_out = shutil.ignore_patterns("rust", "target", "__pycache__", "*.so")
     source = shutil.copytree(f"{root}/bindings", f"{room}/bindings", ignore=left_out) + "/python"
     shutil.copytree(f"{root}/examples", f"{room}/examples", ignore=shutil.ignore_patterns("target"))
     library = f"{prefix}/lib/libboxglue.so"
     given = ["--config-settings", f"library={library}"]
-    pip = [sys.executable, *"-m pip wheel --quiet --no-deps --wheel-dir".split()]
+    pip = [sys.executable, *PIP_WHEEL]
     name = os.path.basename(wheel)
     for at, (words, env) in enumerate(((given, {}), ([], {"BOXGLUE_LIBRARY": library}))):
         run([*pip, f"{room}/{at}", *words, source], room, **NO_NETWORK, **env)
@@ -206,18 +176,16 @@ def backend_wrong(root, prefix, said, room):
 def source_wrong(root, prefix, said, room):
     """What is wrong with the source distribution: its wheel is not the one of ./install, or its
     tests fail over the wheel, away from the clone."""
-    if lacks_pip():
-        return lacks_pip()
+    need_pip()
     make = "import sys; sys.dont_write_bytecode = True; sys.path.insert(0, '.'); import _backend; print(_backend.build_sdist(sys.argv[1]))"
-    made = (
-        lambda folder: f"{folder}/{run([sys.executable, '-c', make, folder], f'{root}/bindings/python').decode().strip()}"
+    words = [sys.executable, "-c", make]
+    first, again = (
+        f"{it}/{line_of([*words, it], f'{root}/bindings/python')}"
+        for it in (room, os.path.dirname(prefix))
     )
-    first, again = made(room), made(os.path.dirname(prefix))
-    with open(first, "rb") as it, open(again, "rb") as other:
-        if it.read() != other.read() or os.path.basename(first) != f"boxglue-{dotted(root)}.tar.gz":
-            return (
-                f"{os.path.basename(first)} has other bytes when it is made again, or another name"
-            )
+    name = os.path.basename(first)
+    if content(first) != content(again) or name != f"boxglue-{dotted(root)}.tar.gz":
+        return f"{name} has other bytes when it is made again, or another name"
     python, library = new_environment(f"{room}/environment"), f"{prefix}/lib/libboxglue.so"
     pip(python, ["install", "--quiet", first], room, BOXGLUE_LIBRARY=library)
     (wheel,) = glob.glob(f"{prefix}/share/boxglue/python/*.whl")
@@ -226,11 +194,8 @@ def source_wrong(root, prefix, said, room):
     with tarfile.open(first) as it:
         it.extractall(f"{room}/source")
     shutil.move(f"{room}/source/boxglue-{dotted(root)}/tests", f"{room}/away/tests")
-    run(
-        [python, "-m", "unittest", "discover", "-q", "-s", "tests", "-t", "."],
-        f"{room}/away",
-        PYTHONDONTWRITEBYTECODE="1",
-    )
+    tests = "-m unittest discover -q -s tests -t .".split()
+    run([python, *tests], f"{room}/away", PYTHONDONTWRITEBYTECODE="1")
     return None
 
 
@@ -275,25 +240,15 @@ def loader_path(library):
 def asked_in_c(root, prefix, said, room):
     """What a program in C says that was linked with the shared object of the prefix."""
     write(f"{room}/asks.c", PRINT_C)
-    flags = [
-        *"-std=c99 -Wall -Wextra -Wpedantic -Werror".split(),
-        f"-I{prefix}/include",
-        f"-L{prefix}/lib",
-    ]
-    run([compiler(), *flags, "-o", "asks", "asks.c", "-lboxglue"], room)
-    return said_at_run_time(root, prefix, room, [f"{room}/asks"], loader_path)
+    made = compiled("asks.c", prefix, room)
+    return said_at_run_time(root, prefix, room, [made], loader_path)
 
 
 def asked_in_rust(root, prefix, said, room):
     """The same in Rust."""
     need("cargo")
     rust_client(room, f"{prefix}/share/boxglue/rust/boxglue", PRINT_RUST)
-    run(
-        ["cargo", "build", "--quiet", "--offline"],
-        room,
-        BOXGLUE_SHARED="1",
-        CARGO_TARGET_DIR=f"{room}/target",
-    )
+    cargo("build", room, BOXGLUE_SHARED="1", CARGO_TARGET_DIR=f"{room}/target")
     return said_at_run_time(root, prefix, room, [f"{room}/target/debug/client"], loader_path)
 
 
@@ -307,9 +262,8 @@ def loader_wrong(root, prefix, said, room):
     """What is wrong with the library that Python loads: that of its package, then the system's, and
     never one that lies where a clone has it."""
     left_out = shutil.ignore_patterns("__pycache__", "*.so")
-    package = shutil.copytree(
-        f"{root}/bindings/python/boxglue", f"{room}/a/b/c/boxglue", ignore=left_out
-    )
+    source = f"{root}/bindings/python/boxglue"
+    package = shutil.copytree(source, f"{room}/a/b/c/boxglue", ignore=left_out)
     words, env = [sys.executable, "-B", "-c", PRINT_PYTHON], {"PYTHONPATH": f"{room}/a/b/c"}
     planted = stand_in(root, f"{room}/a/crates/boxglue_c/out/libboxglue.so", True, 10999)
     try:
@@ -320,10 +274,8 @@ def loader_wrong(root, prefix, said, room):
     system = stand_in(root, f"{room}/system/libboxglue.so.1", True, 10201)
     found = [run(words, room, **env, **loader_path(system))]
     stand_in(root, f"{package}/libboxglue.so", False, 10202)
-    found += [
-        run(words, room, **env, **loader_path(system)),
-        run(words, room, **env, **loader_path(system), BOXGLUE_LIBRARY=planted),
-    ]
+    for named in ({}, {"BOXGLUE_LIBRARY": planted}):
+        found.append(run(words, room, **env, **loader_path(system), **named))
     if found == [b"1.2.1 1\n", b"1.2.2 0\n", b"1.9.99 1\n"]:
         return None
     return f"the system's library, the package's and the named one say {found}"

@@ -15,11 +15,12 @@ from functools import partial
 
 from common.files import content, read, write
 from common.library_build import compiler, named_for
-from common.outcome import Wrong, need, without
+from common.outcome import need, require, without
 from common.part import in_turn
 from common.running import finished
 from common.shared import once, own_folder
 from common.texts import last_lines
+from parts.installing import files_below
 from tools.exports import calls
 from tools.unproved import SAYS
 from tools.version import dotted
@@ -39,23 +40,40 @@ int main(void) {
     return version != BOXGLUE_VERSION;
 }
 """
+FLAGS = "-std=c99 -Wall -Wextra -Wpedantic -Werror".split()
+# What cargo leaves in the folder of a crate.
+BUILDS = shutil.ignore_patterns("target", "Cargo.lock")
+KEPT = ("PATH", "HOME", "CARGO_HOME", "RUSTUP_HOME")
 END, SIZE = b"end: pages 1 bytes 232\n", 232
 
 
 def run(words, cwd, **env):
     """Runs a command that has to succeed, and returns its output. Of the environment it gets what
     tools need, and nothing that names the repository."""
-    kept = {
-        name: os.environ[name]
-        for name in ("PATH", "HOME", "CARGO_HOME", "RUSTUP_HOME")
-        if name in os.environ
-    }
+    kept = {name: os.environ[name] for name in KEPT if name in os.environ}
     ran = finished(words, cwd=cwd, env={**kept, **env})
-    if ran.returncode:
-        raise Wrong(
-            f"{os.path.basename(words[0])}: the status is {ran.returncode}: {last_lines(ran.stderr or ran.stdout)}"
-        )
+    why = last_lines(ran.stderr or ran.stdout)
+    require(
+        not ran.returncode, f"{os.path.basename(words[0])}: the status is {ran.returncode}: {why}"
+    )
     return ran.stdout
+
+
+def line_of(words, cwd, **env):
+    """The line that a command prints."""
+    return run(words, cwd, **env).decode().strip()
+
+
+def cargo(words, folder, **env):
+    """Runs cargo."""
+    return run(["cargo", *words.split(), "--quiet", "--offline"], folder, **env)
+
+
+def compiled(source, prefix, room, library="-lboxglue", flags=FLAGS):
+    """Compiles a program in C by the folders of a prefix, and returns its path."""
+    folders = f"-I{prefix}/include", f"-L{prefix}/lib"
+    run([compiler(), *flags, folders[0], "-o", "made", source, folders[1], library], room)
+    return f"{room}/made"
 
 
 def installing(root, archive, program, prefix):
@@ -86,43 +104,23 @@ def page_in_c(is_static, root, prefix, _said, room):
     """The example in C, by pkg-config, with the shared object or with the archive alone."""
     need("pkg-config")
     shutil.copy(f"{root}/examples/library/page.c", room)
-    flags = (
-        run(
-            ["pkg-config", "--cflags", "--libs", "boxglue"],
-            room,
-            PKG_CONFIG_PATH=f"{prefix}/lib/pkgconfig",
-        )
-        .decode()
-        .split()
-    )
+    paths = {"PKG_CONFIG_PATH": f"{prefix}/lib/pkgconfig"}
+    flags = line_of(["pkg-config", "--cflags", "--libs", "boxglue"], room, **paths).split()
     if is_static:
         flags = [*flags[:-1], "-l:libboxglue.a"]
-    run(
-        [compiler(), *"-std=c99 -Wall -Wextra -Wpedantic -Werror -o page page.c".split(), *flags],
-        room,
-    )
-    return page_wrong(
-        root, [f"{room}/page"], room, **({} if is_static else {"LD_LIBRARY_PATH": f"{prefix}/lib"})
-    )
+    run([compiler(), *FLAGS, "-o", "page", "page.c", *flags], room)
+    env = {} if is_static else {"LD_LIBRARY_PATH": f"{prefix}/lib"}
+    return page_wrong(root, [f"{room}/page"], room, **env)
 
 
 def proved_in_c(root, prefix, _said, room):
     """What C says of the proofs of the shared object, and of the archive."""
     write(f"{room}/proved.c", PROVED)
     wanted = SAYS if SAYS.encode() in content(f"{prefix}/lib/libboxglue.so") else "proved"
-    words = [
-        compiler(),
-        *"-std=c99 -Wall -Wextra -Wpedantic -Werror".split(),
-        f"-I{prefix}/include",
-        "-o",
-        "proved",
-        "proved.c",
-        f"-L{prefix}/lib",
-    ]
     for library in ("-lboxglue", "-l:libboxglue.a"):
-        run([*words, library], room)
-        found = run([f"{room}/proved"], room, LD_LIBRARY_PATH=f"{prefix}/lib").decode()
-        if found != f"{dotted(root)} {wanted}\n":
+        made = compiled("proved.c", prefix, room, library)
+        found = line_of([made], room, LD_LIBRARY_PATH=f"{prefix}/lib")
+        if found != f"{dotted(root)} {wanted}":
             return f"with {library} it prints {found!r}"
     return None
 
@@ -132,24 +130,10 @@ def page_in_python(root, prefix, said, room):
     wheel = re.search(r"^for Python: pip install (\S+)$", said, re.M)[1]
     if finished([sys.executable, "-m", "pip", "--version"]).returncode:
         return without("pip")
-    run(
-        [
-            sys.executable,
-            *"-m pip install --no-index --quiet --disable-pip-version-check --target".split(),
-            f"{room}/site",
-            wheel,
-        ],
-        room,
-    )
-    version = (
-        run(
-            [sys.executable, "-c", "import boxglue; print(boxglue.version())"],
-            room,
-            PYTHONPATH=f"{room}/site",
-        )
-        .decode()
-        .strip()
-    )
+    pip = "-m pip install --no-index --quiet --disable-pip-version-check --target".split()
+    run([sys.executable, *pip, f"{room}/site", wheel], room)
+    ask = [sys.executable, "-c", "import boxglue; print(boxglue.version())"]
+    version = line_of(ask, room, PYTHONPATH=f"{room}/site")
     if version != dotted(root):
         return f"the package has version {version}"
     shutil.copy(f"{root}/examples/library/page.py", room)
@@ -159,25 +143,15 @@ def page_in_python(root, prefix, said, room):
 def page_in_rust(root, _prefix, said, room):
     """The example in Rust, with the path that the script prints."""
     need("cargo")
-    shutil.copytree(
-        f"{root}/examples/library/page",
-        f"{room}/page",
-        ignore=shutil.ignore_patterns("target", "Cargo.lock"),
-    )
+    shutil.copytree(f"{root}/examples/library/page", f"{room}/page", ignore=BUILDS)
     manifest = f"{room}/page/Cargo.toml"
-    text, count = re.subn(
-        r"(?m)^boxglue = .*$",
-        lambda _: re.search(r"^for Rust, in Cargo.toml: (.*)$", said, re.M)[1],
-        read(manifest),
-    )
+    line = re.search(r"^for Rust, in Cargo.toml: (.*)$", said, re.M)[1]
+    text, count = re.subn(r"(?m)^boxglue = .*$", lambda _: line, read(manifest))
     if count != 1:
         return "Cargo.toml of the example does not name the crate"
     write(manifest, text)
-    return page_wrong(
-        root,
-        [*"cargo run --quiet --offline --manifest-path".split(), f"{room}/page/Cargo.toml", "--"],
-        room,
-    )
+    words = ["cargo", *"run --quiet --offline --manifest-path".split(), manifest, "--"]
+    return page_wrong(root, words, room)
 
 
 def rust_tests(is_shared, _root, prefix, _said, room):
@@ -186,13 +160,8 @@ def rust_tests(is_shared, _root, prefix, _said, room):
     need("cargo")
     shutil.copytree(f"{prefix}/share/boxglue/rust", f"{room}/rust")
     env = {"BOXGLUE_SHARED": "1", "LD_LIBRARY_PATH": f"{prefix}/lib"} if is_shared else {}
-    run(
-        ["cargo", "test", "--quiet", "--offline"],
-        f"{room}/rust",
-        PKG_CONFIG_PATH=f"{prefix}/lib/pkgconfig",
-        BOXGLUE_LIB_DIR=f"{prefix}/lib",
-        **env,
-    )
+    env |= {"PKG_CONFIG_PATH": f"{prefix}/lib/pkgconfig", "BOXGLUE_LIB_DIR": f"{prefix}/lib"}
+    cargo("test", f"{room}/rust", **env)
     return None
 
 
@@ -200,13 +169,8 @@ def names_wrong(root, prefix, _said, room):
     """What is wrong with the names of the shared object and of the archive: those of the header,
     and that of an unproved library."""
     need("nm")
-    shared = run(
-        ["nm", "--dynamic", "--defined-only", f"{prefix}/lib/libboxglue.so"], room
-    ).decode()
-    static = run(
-        ["nm", "--extern-only", "--defined-only", f"{prefix}/lib/libboxglue.a"], room
-    ).decode()
-    for text in (shared, static):
+    for option, name in (("--dynamic", "libboxglue.so"), ("--extern-only", "libboxglue.a")):
+        text = line_of(["nm", option, "--defined-only", f"{prefix}/lib/{name}"], room)
         found = {*re.findall(r"^[0-9a-f]+ \w (\S+)$", text, re.M)} - {"boxglue_unproved"}
         if found != {*calls(root)}:
             return f"these names are in a library or the header alone: {sorted(found ^ {*calls(root)})}"
@@ -218,25 +182,18 @@ def wheel_wrong(root, prefix, said, room):
     """What is wrong with the wheel: another run gives other bytes, or its record is not that of its
     files."""
     wheel = re.search(r"^for Python: pip install (\S+)$", said, re.M)[1]
-    made = (
-        run([sys.executable, f"{root}/bindings/wheel", f"{prefix}/lib/libboxglue.so", room], room)
-        .decode()
-        .strip()
-    )
+    words = [sys.executable, f"{root}/bindings/wheel", f"{prefix}/lib/libboxglue.so", room]
+    made = line_of(words, room)
     if content(wheel) != content(made) or os.path.basename(wheel) != os.path.basename(made):
         return "the wheel is another one when it is made again"
     with zipfile.ZipFile(wheel) as it:
-        rows = {
-            name: (digest, size)
-            for name, digest, size in csv.reader(it.read(it.namelist()[-1]).decode().splitlines())
-        }
-        found = {
-            name: (record_digest(it.read(name)), str(len(it.read(name))))
-            for name in it.namelist()[:-1]
-        }
-        if rows == {**found, it.namelist()[-1]: ("", "")}:
-            return None
-        return "the record is not that of the files"
+        *names, record = it.namelist()
+        rows = [*csv.reader(it.read(record).decode().splitlines())]
+        data = {name: it.read(name) for name in names}
+    found = [[name, record_digest(its), str(len(its))] for name, its in data.items()]
+    if sorted(rows) == sorted([*found, [record, "", ""]]):
+        return None
+    return "the record is not that of the files"
 
 
 def record_digest(data):
@@ -248,14 +205,9 @@ def stage_wrong(root, archive, program):
     """What is wrong with files that are put below DESTDIR: one that names it."""
     with tempfile.TemporaryDirectory(prefix="boxglue-stage-") as room:
         run(installing(root, archive, program, "/opt/boxglue"), room, DESTDIR=f"{room}/stage")
-        paths = [
-            f"{place}/{name}" for place, _, names in os.walk(f"{room}/stage") for name in names
-        ]
-        wrong = [
-            os.path.relpath(it, room)
-            for it in paths
-            if room.encode() in content(it) or not it.startswith(f"{room}/stage/opt/boxglue/")
-        ]
+        paths = [f"{room}/{it}" for it in files_below(room)]
+        others = [it for it in paths if not it.startswith(f"{room}/stage/opt/boxglue/")]
+        wrong = others + [it for it in paths if room.encode() in content(it)]
         if wrong or len(paths) < 20:
             return f"these files name DESTDIR, or are not below the prefix: {wrong}"
         return None

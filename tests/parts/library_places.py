@@ -3,6 +3,7 @@ libraries, moved, below a system root, without `rt`; how the shared object is li
 in strict C89."""
 import glob
 import os
+import re
 import shutil
 import struct
 from functools import partial
@@ -12,14 +13,14 @@ from common.library_build import CARGO, compiler
 from common.outcome import Wrong, lacks, need
 from common.part import in_turn
 from parts.installing import without_rt
-from parts.library_packages import installing, outcome, page_wrong, run
+from parts.library_packages import BUILDS, FLAGS, cargo, compiled, installing, line_of, outcome
+from parts.library_packages import page_wrong, run
 from tools.version import dotted
 
 TITLE = "./install --library in other places: moved, with --libdir, below a system root, without rt; CMake, pkg-config, cargo package, C89"
 PROGRAM = "library"
 NEEDS_PROGRAM = True
 SPLIT = in_turn(4)
-FLAGS = ["-std=c99", "-Wall", "-Wextra", "-Wpedantic", "-Werror"]
 CMAKE = """cmake_minimum_required(VERSION 3.13)
 project(page C)
 find_package(boxglue %s REQUIRED)
@@ -48,23 +49,10 @@ def moved(prefix, room):
 def page_by_pkg_config(root, folder, libdir, room):
     """What is wrong with the example in C by pkg-config, from a folder."""
     words = ["pkg-config", "--cflags", "--libs", f"boxglue = {dotted(root)}"]
-    flags = (
-        run(words, room, PKG_CONFIG_PATH=f"{folder}/{libdir}/pkgconfig")
-        .decode()
-        .replace("\\ ", "\0")
-        .split()
-    )
-    run(
-        [
-            compiler(),
-            *FLAGS,
-            "-o",
-            "page",
-            f"{root}/examples/library/page.c",
-            *(it.replace("\0", " ") for it in flags),
-        ],
-        room,
-    )
+    given = line_of(words, room, PKG_CONFIG_PATH=f"{folder}/{libdir}/pkgconfig")
+    # A backslash stands before a blank in a name.
+    flags = [it.replace("\\ ", " ") for it in re.split(r"(?<!\\) +", given)]
+    run([compiler(), *FLAGS, "-o", "page", f"{root}/examples/library/page.c", *flags], room)
     return page_wrong(root, [f"{room}/page"], room, LD_LIBRARY_PATH=f"{folder}/{libdir}")
 
 
@@ -72,21 +60,11 @@ def moved_in_c(root, prefix, said, room):
     """What is wrong with pkg-config where the prefix was moved."""
     need("pkg-config")
     folder = moved(prefix, room)
-    found = (
-        run(
-            ["pkg-config", "--variable=prefix", "boxglue"],
-            room,
-            PKG_CONFIG_PATH=f"{folder}/lib/pkgconfig",
-        )
-        .decode()
-        .strip()
-        .replace("\\ ", " ")
-    )
-    return (
-        page_by_pkg_config(root, folder, "lib", room)
-        if os.path.realpath(found) == folder
-        else f"the prefix is {found}"
-    )
+    paths = {"PKG_CONFIG_PATH": f"{folder}/lib/pkgconfig"}
+    found = line_of(["pkg-config", "--variable=prefix", "boxglue"], room, **paths)
+    if os.path.realpath(found.replace("\\ ", " ")) != folder:
+        return f"the prefix is {found}"
+    return page_by_pkg_config(root, folder, "lib", room)
 
 
 def configured(version, folder, room, **env):
@@ -104,9 +82,8 @@ def page_by_cmake(root, folder, room):
     for version in ("", "1.1", "1.2.0 EXACT"):
         configured(version, folder, room)
     run(["cmake", "--build", f"{room}/made"], room)
-    wrong = page_wrong(root, [f"{room}/made/page"], room) or page_wrong(
-        root, [f"{room}/made/page_static"], room
-    )
+    pages = [page_wrong(root, [f"{room}/made/page{it}"], room) for it in ("", "_static")]
+    wrong = pages[0] or pages[1]
     for version in ("1.99", "2", "0.9"):
         try:
             configured(version, folder, room)
@@ -125,54 +102,35 @@ def rust_page(root, crates, room, **env):
     """What is wrong with the example in Rust over crates in a folder."""
     shutil.copytree(f"{root}/examples/library/page/src", f"{room}/client/src", dirs_exist_ok=True)
     write(f"{room}/client/Cargo.toml", CARGO % f"{crates}/boxglue")
-    run(
-        ["cargo", "build", "--quiet", "--offline"],
-        f"{room}/client",
-        CARGO_TARGET_DIR=f"{room}/target",
-        **env,
-    )
+    cargo("build", f"{room}/client", CARGO_TARGET_DIR=f"{room}/target", **env)
     return page_wrong(root, [f"{room}/target/debug/client"], room)
 
 
 def moved_in_rust(root, prefix, said, room):
     """What is wrong with the crates where the prefix was moved: they find the archive beside
     them."""
-    return lacks("cargo") or rust_page(
-        root, f"{moved(prefix, room)}/share/boxglue/rust", room, PKG_CONFIG_PATH=""
-    )
+    need("cargo")
+    crates = f"{moved(prefix, room)}/share/boxglue/rust"
+    return rust_page(root, crates, room, PKG_CONFIG_PATH="")
 
 
 def system_root_in_rust(root, prefix, said, room):
     """What is wrong with crates elsewhere, and two system roots in turn, in which boxglue.pc names
     /usr, as a distribution has it."""
-    if lacks("cargo") or lacks("pkg-config"):
-        return lacks("cargo") or lacks("pkg-config")
-    shutil.copytree(
-        f"{root}/bindings/rust",
-        f"{room}/crates",
-        ignore=shutil.ignore_patterns("target", "Cargo.lock"),
-    )
+    need("cargo", "pkg-config")
+    crates = shutil.copytree(f"{root}/bindings/rust", f"{room}/crates", ignore=BUILDS)
     for system in (f"{room}/first", f"{room}/second"):
         shutil.copytree(prefix, f"{system}/usr", symlinks=True)
-        lines = read(f"{system}/usr/lib/pkgconfig/boxglue.pc").splitlines()[1:]
-        write(f"{system}/usr/lib/pkgconfig/boxglue.pc", "\n".join(["prefix=/usr", *lines, ""]))
-        wrong = rust_page(
-            root,
-            f"{room}/crates",
-            room,
-            PKG_CONFIG_SYSROOT_DIR=system,
-            PKG_CONFIG_LIBDIR=f"{system}/usr/lib/pkgconfig",
-        )
-        outputs = [
-            it
-            for it in glob.glob(f"{room}/target/debug/build/boxglue-sys-*/output")
-            if f"native={system}/" in read(it)
-        ]
-        if wrong or not outputs:
-            return (
-                wrong
-                or f"the library below {os.path.basename(system)} is not the one that is linked"
-            )
+        folder = f"{system}/usr/lib/pkgconfig"
+        lines = read(f"{folder}/boxglue.pc").splitlines()[1:]
+        write(f"{folder}/boxglue.pc", "\n".join(["prefix=/usr", *lines, ""]))
+        env = {"PKG_CONFIG_SYSROOT_DIR": system, "PKG_CONFIG_LIBDIR": folder}
+        wrong = rust_page(root, crates, room, **env)
+        if wrong:
+            return wrong
+        outputs = glob.glob(f"{room}/target/debug/build/boxglue-sys-*/output")
+        if not any(f"native={system}/" in read(it) for it in outputs):
+            return f"the library below {os.path.basename(system)} is not the one that is linked"
     return None
 
 
@@ -180,31 +138,15 @@ def packaged(root, prefix, said, room):
     """What is wrong with `cargo package`: it packs and builds both crates, with the library of the
     prefix and, as docs.rs does, without any."""
     need("cargo")
-    crates = shutil.copytree(
-        f"{root}/bindings/rust",
-        f"{room}/crates",
-        ignore=shutil.ignore_patterns("target", "Cargo.lock"),
-    )
+    crates = shutil.copytree(f"{root}/bindings/rust", f"{room}/crates", ignore=BUILDS)
+    target = {"CARGO_TARGET_DIR": f"{room}/target"}
     for env in ({"BOXGLUE_LIB_DIR": f"{prefix}/lib"}, {"DOCS_RS": "1", "PKG_CONFIG_PATH": ""}):
-        run(
-            ["cargo", "package", "--workspace", "--offline", "--quiet"],
-            crates,
-            CARGO_TARGET_DIR=f"{room}/target",
-            **env,
-        )
+        cargo("package --workspace", crates, **target, **env)
     for crate in ("boxglue", "boxglue-sys"):
-        listed = run(
-            ["cargo", "package", "--list", "--offline", "--quiet", "-p", crate],
-            crates,
-            CARGO_TARGET_DIR=f"{room}/target",
-        )
-        names = {*listed.decode().split()}
+        names = {*cargo(f"package --list -p {crate}", crates, **target).decode().split()}
         text = read(f"{crates}/{crate}/Cargo.toml")
-        if (
-            "README.md" not in names
-            or "libdir" in names
-            or any(f"\n{it} = " not in text for it in ("readme", "keywords", "categories"))
-        ):
+        is_told = all(f"\n{it} = " in text for it in ("readme", "keywords", "categories"))
+        if "README.md" not in names or "libdir" in names or not is_told:
             return f"{crate} has the files {sorted(names)}"
     return None
 
@@ -212,25 +154,18 @@ def packaged(root, prefix, said, room):
 def other_folder(root, archive, program, room):
     """What is wrong with a library in another folder, by pkg-config, CMake and Rust, and with its
     end."""
-    prefix, libdir = (
-        placed(root, archive, program, room, "--libdir", "lib/x86_64-linux-gnu"),
-        "lib/x86_64-linux-gnu",
-    )
+    libdir = "lib/x86_64-linux-gnu"
+    prefix = placed(root, archive, program, room, "--libdir", libdir)
     if os.listdir(f"{prefix}/lib") != ["x86_64-linux-gnu"]:
         return f"lib has {os.listdir(f'{prefix}/lib')}"
     wrong = None if lacks("pkg-config") else page_by_pkg_config(root, prefix, libdir, room)
-    wrong = wrong or (
-        None if lacks("cmake") or lacks("make") else page_by_cmake(root, prefix, room)
-    )
-    wrong = wrong or (
-        None
-        if lacks("cargo")
-        else rust_page(root, f"{prefix}/share/boxglue/rust", room, PKG_CONFIG_PATH="")
-    )
+    if not wrong and not lacks("cmake") and not lacks("make"):
+        wrong = page_by_cmake(root, prefix, room)
+    if not wrong and not lacks("cargo"):
+        wrong = rust_page(root, f"{prefix}/share/boxglue/rust", room, PKG_CONFIG_PATH="")
     run([f"{root}/install", "--uninstall", "--prefix", prefix], room)
-    return wrong or (
-        f"{os.listdir(prefix)} is left" if os.path.exists(prefix) and os.listdir(prefix) else None
-    )
+    left = os.listdir(prefix) if os.path.exists(prefix) else []
+    return wrong or (f"{left} is left" if left else None)
 
 
 def without_kit(root, archive, program, room):
@@ -245,20 +180,8 @@ def without_kit(root, archive, program, room):
         if "lacks the heap of its kit" not in str(wrong) or os.path.exists(f"{room}/prefix"):
             return f"libboxglue_c.a: {wrong}"
     prefix = placed(root, f"{room}/libboxglue.a", program, room, PATH=path)
-    run(
-        [
-            compiler(),
-            *FLAGS,
-            f"-I{prefix}/include",
-            "-o",
-            "page",
-            f"{root}/examples/library/page.c",
-            f"-L{prefix}/lib",
-            "-lboxglue",
-        ],
-        room,
-    )
-    return page_wrong(root, [f"{room}/page"], room, LD_LIBRARY_PATH=f"{prefix}/lib")
+    made = compiled(f"{root}/examples/library/page.c", prefix, room)
+    return page_wrong(root, [made], room, LD_LIBRARY_PATH=f"{prefix}/lib")
 
 
 def dynamic_of(data):
@@ -268,9 +191,8 @@ def dynamic_of(data):
     for at in range(start, start + size * count, size):
         kind, _flags, place, _address, _physical, length = struct.unpack_from("<IIQQQQ", data, at)
         if kind == DYNAMIC:
-            return dict(
-                struct.unpack_from("<QQ", data, it) for it in range(place, place + length, 16)
-            )
+            tags = range(place, place + length, 16)
+            return dict(struct.unpack_from("<QQ", data, it) for it in tags)
     return {}
 
 
@@ -286,13 +208,9 @@ def in_c89(root, prefix, said, room):
     """What is wrong with the header in strict C89: it is accepted with BOXGLUE_NO_INLINE alone, and
     says so."""
     write(f"{room}/calls.c", C89)
-    flags = [
-        *"-std=c89 -pedantic-errors -Wall -Wextra -Werror -DBOXGLUE_NO_INLINE".split(),
-        f"-I{prefix}/include",
-        f"-L{prefix}/lib",
-    ]
-    run([compiler(), *flags, "-o", "calls", "calls.c", "-lboxglue"], room)
-    run([f"{room}/calls"], room, LD_LIBRARY_PATH=f"{prefix}/lib")
+    flags = "-std=c89 -pedantic-errors -Wall -Wextra -Werror -DBOXGLUE_NO_INLINE".split()
+    made = compiled("calls.c", prefix, room, flags=flags)
+    run([made], room, LD_LIBRARY_PATH=f"{prefix}/lib")
     text = " ".join(read(f"{prefix}/include/boxglue.h").replace("\n *", " ").split())
     if "Strict C89 has no inline functions, and needs BOXGLUE_NO_INLINE." in text:
         return None
