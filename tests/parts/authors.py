@@ -9,11 +9,12 @@ import re
 import shutil
 import sys
 import tempfile
+import textwrap
 from functools import partial
 
 from common.files import content, read, write
 from common.library_build import python_words
-from common.outcome import on_each, require
+from common.outcome import equal, on_each, require
 from common.running import finished
 from models.plain_font import metric_file
 from parts.examples import run, shown_on_pages
@@ -41,17 +42,18 @@ with boxglue.Job({"cmr10": open("cmr10.tfm", "rb").read()}) as job, open("out/ca
     job.finish().check()
     out.write(job.take())
 """
+# The rows of GATE with the seconds of the first command, and with the minutes of the proofs.
+MEASURED = (
+    r"(?m)^\| README's first command \| four cores of [^|]* \| (\d+) s by the clock \|",
+    r"(?m)^\| `bench/gate_times.py ./install --library` \| four cores of [^|]* \| (\d+) minutes,",
+)
 SMALL = {2: "two", 3: "three", 4: "four", 5: "five"}
 
 
 def blocks(root, name="AUTHORS"):
     """The indented blocks of a document, without those in fences."""
-    found = re.findall(
-        r"(?:^    .*\n)+",
-        re.sub(r"^```.*?^```$", "", read(f"{root}/docs/{name}.md"), flags=re.M | re.S),
-        re.M,
-    )
-    return ["".join(line[4:] for line in it.splitlines(keepends=True)) for it in found]
+    text = re.sub(r"^```.*?^```$", "", read(f"{root}/docs/{name}.md"), flags=re.M | re.S)
+    return [textwrap.dedent(it) for it in re.findall(r"(?:^    .*\n)+", text, re.M)]
 
 
 class Room:
@@ -69,17 +71,13 @@ class Room:
     def shell(self, text):
         """Runs commands of the shell."""
         env = {**self.env, "PATH": f"{self.folder}/bin:{os.environ['PATH']}", "cmr10": "cmr10.tfm"}
-        ran = finished(
-            ["bash", "-euo", "pipefail", "-c", text],
-            cwd=self.folder,
-            env=env,
-            text=True,
-            timeout=LIMIT,
-        )
-        require(
-            (ran.returncode, ran.stderr) == (0, ""),
-            f"{text!r}: the status is {ran.returncode}; {(ran.stderr or ran.stdout)[-200:]!r}",
-        )
+        return self.run(["bash", "-euo", "pipefail", "-c", text], env, repr(text))
+
+    def run(self, words, env, what):
+        """Runs a command that has to succeed in silence, and returns what it prints."""
+        ran = finished(words, cwd=self.folder, env=env, text=True, timeout=LIMIT)
+        why = f"{what}: the status is {ran.returncode}; {(ran.stderr or ran.stdout)[-200:]!r}"
+        require((ran.returncode, ran.stderr) == (0, ""), why)
         return ran.stdout
 
     def text(self, name):
@@ -88,8 +86,11 @@ class Room:
 
     def pages(self, name):
         """What each page of a DVI file shows, as text without spaces."""
-        listing = run(self.program, self.folder, ["list", f"out/{name}.dvi", "cmr10=cmr10.tfm"])
-        return ["".join(map(chr, it)) for it in shown_on_pages(listing)]
+        return ["".join(map(chr, it)) for it in shown_on_pages(self.listing(name))]
+
+    def listing(self, name):
+        """The listing of a DVI file."""
+        return run(self.program, self.folder, ["list", f"out/{name}.dvi", "cmr10=cmr10.tfm"])
 
 
 def solid(text):
@@ -99,60 +100,42 @@ def solid(text):
 
 def steps_between_baselines(listing):
     """The distances of the lines on each page of a listing, each once."""
-    pages = [
-        sorted({int(it) for it in re.findall(r"^glyph \d+ \d+ \S+ (\S+)$", page, re.M)})
-        for page in listing.split("page ")[1:]
-    ]
-    return {lower - upper for lines in pages for upper, lower in zip(lines, lines[1:])}
+    pages, steps = listing.split("page ")[1:], set()
+    for page in pages:
+        lines = sorted({int(it) for it in re.findall(r"^glyph \d+ \d+ \S+ (\S+)$", page, re.M)})
+        steps |= {lower - upper for upper, lower in zip(lines, lines[1:])}
+    return steps
 
 
 def check_calls(room):
     """The calls of the document, and splits until there is no rest: all are accepted, each
     paragraph is on a page, and the baselines of a page are 12pt apart."""
-    (calls,) = re.findall(
-        r"^```python\n(.*?)^```$", read(f"{room.root}/docs/AUTHORS.md"), re.M | re.S
-    )
+    text = read(f"{room.root}/docs/AUTHORS.md")
+    (calls,) = re.findall(r"^```python\n(.*?)^```$", text, re.M | re.S)
     os.makedirs(f"{room.folder}/out", exist_ok=True)
-    ran = finished(
-        [sys.executable, "-c", CALLS % (TIMES, calls)],
-        cwd=room.folder,
-        env=room.env,
-        text=True,
-        timeout=LIMIT,
-    )
-    require(
-        (ran.returncode, ran.stderr) == (0, ""), f"the calls of the document: {ran.stderr[-200:]!r}"
-    )
-    pages, listing = room.pages("calls"), run(
-        room.program, room.folder, ["list", "out/calls.dvi", "cmr10=cmr10.tfm"]
-    )
-    require(
-        len(pages) > 1 and "".join(pages) == "Anewparagraph." * TIMES,
-        f"the calls of the document make the pages {pages}",
-    )
-    steps = steps_between_baselines(listing)
+    what = "the calls of the document"
+    room.run([sys.executable, "-c", CALLS % (TIMES, calls)], room.env, what)
+    pages = room.pages("calls")
+    is_whole = len(pages) > 1 and "".join(pages) == "Anewparagraph." * TIMES
+    require(is_whole, f"{what} make the pages {pages}")
+    steps = steps_between_baselines(room.listing("calls"))
     require(steps == {BASELINESKIP}, f"the baselines of the document's calls are {steps} apart")
 
 
 def check_shapes(room):
     """Each letter of the text in each shape, and of the headings."""
-    (text,) = re.findall(
-        r'^TEXT = """(.*?)"""', room.text("examples/layout/shapes.py"), re.M | re.S
-    )
+    source = room.text("examples/layout/shapes.py")
+    (text,) = re.findall(r'^TEXT = """(.*?)"""', source, re.M | re.S)
     shapes = ["ragged", "centred", "hanging", "quoted", "besideapicture", "besideapicture"]
     wanted = "".join([*shapes, *[solid(text)] * len(shapes)])
-    require(
-        sorted("".join(room.pages("shapes"))) == sorted(wanted),
-        "the page of shapes.py does not show its texts",
-    )
+    is_shown = sorted("".join(room.pages("shapes"))) == sorted(wanted)
+    require(is_shown, "the page of shapes.py does not show its texts")
 
 
 def check_contents(room):
     """The pages of the titles that are marked."""
-    require(
-        room.text("out/contents.txt") == "1 Of boxes\n2 Of glue\n2 Of pages\n",
-        f"out/contents.txt is {room.text('out/contents.txt')!r}",
-    )
+    titles = "1 Of boxes\n2 Of glue\n2 Of pages\n"
+    equal("out/contents.txt", room.text("out/contents.txt"), titles)
 
 
 def check_book(room):
@@ -161,30 +144,18 @@ def check_book(room):
     text, (contents, *pages) = room.text("examples/layout/book.txt"), room.pages("book")
     titles, notes = re.findall(r"^# (.*)$", text, re.M), re.findall(r"\^\[(.*?)\]", text)
     # The title stands in the head of the page, before the page's number, and once more below it.
-    first = {
-        title: next(
-            number
-            for number, page in enumerate(pages, 2)
-            if page.startswith(f"{solid(title)}{number}{solid(title)}")
-        )
-        for title in titles
-    }
-    require(
-        contents
-        == "Contents1" + "".join(f"{solid(title)}{number}" for title, number in first.items()),
-        f"the contents are {contents!r}",
-    )
+    first = {}
+    for title in map(solid, titles):
+        begins = [it.startswith(f"{title}{at}{title}") for at, it in enumerate(pages, 2)]
+        first[title] = 2 + begins.index(True)
+    wanted = "Contents1" + "".join(f"{title}{number}" for title, number in first.items())
+    equal("the contents", contents, wanted)
     for number, note in enumerate(notes, 1):
         where = [page for page in pages if f"({number}){solid(note)}" in page]
-        require(
-            len(where) == 1 and where[0].count(f"({number})") == 2,
-            f"footnote {number} is not on the page of its mark",
-        )
-    given = re.sub(
-        r"\^\[.*?\]",
-        "",
-        re.sub(r"@\[(.*?)\]", lambda it: str(first[it[1]]), text.replace("# ", "")),
-    )
+        is_there = len(where) == 1 and where[0].count(f"({number})") == 2
+        require(is_there, f"footnote {number} is not on the page of its mark")
+    given = re.sub(r"\^\[.*?\]", "", text.replace("# ", ""))
+    given = re.sub(r"@\[(.*?)\]", lambda it: str(first[solid(it[1])]), given)
     shown = "".join(pages)
     for number, note in enumerate(notes, 1):
         shown = shown.replace(f"({number}){solid(note)}", "").replace(f"({number})", "")
@@ -199,21 +170,18 @@ def check_hyphens(room):
     """Each paragraph, and the same with more hyphens."""
     page, given = "".join(room.pages("hyphens")), solid(room.text("examples/layout/hyphens.txt"))
     hyphens = page.count("-") - 2 * given.count("-")
-    require(
-        page.replace("-", "") == 2 * given.replace("-", "") and hyphens > 0,
-        f"the page of hyphens.py does not show its text twice, with {hyphens} more hyphens",
-    )
+    is_shown = page.replace("-", "") == 2 * given.replace("-", "") and hyphens > 0
+    why = f"the page of hyphens.py does not show its text twice, with {hyphens} more hyphens"
+    require(is_shown, why)
 
 
 def check_columns(room):
     """All cells and all words are there, and the columns are even."""
     (page,) = room.pages("columns")
-    listing = run(room.program, room.folder, ["list", "out/columns.dvi", "cmr10=cmr10.tfm"])
-    places = [
-        tuple(map(int, it)) for it in re.findall(r"^glyph \d+ \d+ (\S+) (\S+)$", listing, re.M)
-    ]
+    marks = re.findall(r"^glyph \d+ \d+ (\S+) (\S+)$", room.listing("columns"), re.M)
+    places = [tuple(map(int, it)) for it in marks]
     edge = max(h for h, _ in places) // 2
-    text = [it for it in places[page.index("Columnsarebalanced") :]]
+    text = places[page.index("Columnsarebalanced") :]
     lines = [len({v for h, v in text if (h < edge) == left}) for left in (True, False)]
     require(lines[0] - lines[1] in (0, 1) and lines[1] > 1, f"the columns have {lines} lines")
     require(page.endswith("allthathastobeknown."), "the end of the text is not on the page")
@@ -235,10 +203,8 @@ def check_bytes(drawing, dvi):
     for line in drawing.splitlines():
         for part in line.split("  ")[0].split(" .. "):
             found = dvi.find(bytes.fromhex(part), place)
-            require(
-                found >= 0 and (found == place or " .. " in line),
-                f"the file has no {part!r} at {place}",
-            )
+            is_there = found >= 0 and (found == place or " .. " in line)
+            require(is_there, f"the file has no {part!r} at {place}")
             place = found + len(bytes.fromhex(part))
     require(place == len(dvi), f"the drawing ends at {place} of {len(dvi)} bytes")
 
@@ -248,17 +214,12 @@ def tour(room):
     script, typeset, answers, _, listing, drawing, edit, tried = blocks(room.root, "TOUR")
     shown = re.search(r"^prints `(.*)` and `(.*)`\.$", read(f"{room.root}/docs/TOUR.md"), re.M)
     os.mkdir(f"{room.folder}/out")
-    require(
-        script == read(f"{room.root}/examples/one_rule_page.box"),
-        "the script is not that of examples/",
-    )
-    require(room.shell(typeset) == answers, "the answers are others")
-    require(
-        room.shell(listing) == "".join(f"{it}\n" for it in shown.groups()), "the listing is another"
-    )
+    equal("the script", script, read(f"{room.root}/examples/one_rule_page.box"))
+    equal("the answers", room.shell(typeset), answers)
+    equal("the listing", room.shell(listing), "".join(f"{it}\n" for it in shown.groups()))
     check_bytes(drawing, content(f"{room.folder}/out/rule.dvi"))
     path = tried.split()[1].replace("/", "/must-fail/")
-    require(edit == read(f"{room.root}/crates/{path}.edit"), "the edit is another")
+    equal("the edit", edit, read(f"{room.root}/crates/{path}.edit"))
 
 
 def document(room):
@@ -287,42 +248,17 @@ session.ask("end", "kern 1")
 def asking(room):
     """asking.py gives any number of commands, and ends at a bad line."""
     os.mkdir(f"{room.folder}/out")
-    ran = finished(
-        [sys.executable, "-c", CLIENT],
-        cwd=room.folder,
-        env={"PATH": f"{room.folder}/bin"},
-        text=True,
-        timeout=LIMIT,
-    )
+    words, env = [sys.executable, "-c", CLIENT], {"PATH": f"{room.folder}/bin"}
+    ran = finished(words, cwd=room.folder, env=env, text=True, timeout=LIMIT)
     wanted = 1, "40000\n", "kern 1: refused 2 BadScript 40002 Dimension\n"
-    require(
-        (ran.returncode, ran.stdout, ran.stderr) == wanted,
-        f"a client says {(ran.stderr or ran.stdout)[-200:]!r}",
-    )
+    equal("a client", (ran.returncode, ran.stdout, ran.stderr), wanted)
 
 
 def times(root):
     """README.md rounds to whole minutes how long its first command takes, and to whole hours how
     long the proofs do."""
     gate, readme = read(f"{root}/docs/internal/GATE.md"), read(f"{root}/README.md")
-    minutes = round(
-        int(
-            re.search(
-                r"(?m)^\| README's first command \| four cores of [^|]* \| (\d+) s by the clock \|",
-                gate,
-            )[1]
-        )
-        / 60
-    )
-    hours = round(
-        int(
-            re.search(
-                r"(?m)^\| `bench/gate_times.py ./install --library` \| four cores of [^|]* \| (\d+) minutes,",
-                gate,
-            )[1]
-        )
-        / 60
-    )
+    minutes, hours = (round(int(re.search(it, gate)[1]) / 60) for it in MEASURED)
     said = (
         f"in {SMALL[minutes]} minutes on four free cores",
         f"in {'an hour' if hours == 1 else f'{SMALL[hours]} hours'} on four cores",

@@ -7,15 +7,8 @@ import tempfile
 from functools import partial
 
 from common.files import read, write
-from common.library_build import (
-    compile_c,
-    compiler,
-    heap_archive,
-    object_words,
-    python_words,
-    run_build,
-    rust_client,
-)
+from common.library_build import compile_c, compiler, heap_archive, object_words, python_words
+from common.library_build import run_build, rust_client
 from common.outcome import need
 from common.running import finished
 from common.texts import last_lines
@@ -35,66 +28,41 @@ SOURCES = "typed_calls", "typed_faults"
 
 def in_python(more, root, archive, _folder, given):
     """The typed calls of a job, or of a batch, in Python."""
-    return run_wrong(
-        *python_words(
-            root, archive, [f"{root}/bindings/python/tests/typed_calls.py", *given, *more]
-        )
-    )
-
-
-def rust_words(root, archive, folder, source):
-    """The words that run a program over the binding for Rust, and their environment, or what is
-    wrong with the library."""
-    words = rust_client(
-        folder, f"{root}/bindings/rust/boxglue", read(f"{root}/tests/clients/{source}")
-    )
-    env = {**os.environ, "BOXGLUE_LIB_DIR": folder, "CARGO_TARGET_DIR": f"{folder}/target"}
-    return (
-        words,
-        env,
-        run_build([f"{root}/bindings/build", "--static", archive, f"{folder}/libboxglue.a"]),
-    )
+    driver = f"{root}/bindings/python/tests/typed_calls.py"
+    return run_wrong(*python_words(root, archive, [driver, *given, *more]))
 
 
 def in_rust(root, archive, folder, given):
     """The typed calls of Rust."""
     need("cargo")
-    words, env, wrong = rust_words(root, archive, folder, "typed_calls.rs")
-    return wrong or run_wrong([*words, *given, str(SAID)], env)
+    source = read(f"{root}/tests/clients/typed_calls.rs")
+    words = rust_client(folder, f"{root}/bindings/rust/boxglue", source)
+    build = [f"{root}/bindings/build", "--static", archive, f"{folder}/libboxglue.a"]
+    return run_build(build) or run_wrong([*words, *given, str(SAID)], rust_environment(folder))
+
+
+def rust_environment(folder):
+    """The environment in which cargo finds the library in a folder, and builds there."""
+    return {**os.environ, "BOXGLUE_LIB_DIR": folder, "CARGO_TARGET_DIR": f"{folder}/target"}
 
 
 def in_c(root, archive, folder, given):
     """The typed calls of C."""
-    return compile_c(
-        root, archive, [f"{root}/tests/clients/typed_calls.c"], f"{folder}/calls", []
-    ) or run_wrong([f"{folder}/calls", *given])
+    sources, made = [f"{root}/tests/clients/typed_calls.c"], f"{folder}/calls"
+    return compile_c(root, archive, sources, made, []) or run_wrong([made, *given])
 
 
 def faults_in_c(language, root, archive, folder):
     """What scripts cannot have, null handles and long texts, by the calls in a language, with the
     sanitizers of the compiler."""
-    words, flags = language.split(), [
-        *WARNINGS,
-        "-fsanitize=address,undefined",
-        "-g",
-        f"-I{root}/include",
-    ]
+    words, sanitized = language.split(), ["-fsanitize=address,undefined", "-g"]
     need(words[0])
-    source = f"{root}/tests/clients/typed_faults.c"
+    source, made = f"{root}/tests/clients/typed_faults.c", f"{folder}/faults"
+    flags = [*WARNINGS, *sanitized, f"-I{root}/include"]
     return (
-        run_build([*words, *flags, "-c", source, "-o", f"{folder}/faults.o"])
-        or run_build(
-            [
-                words[0],
-                *flags[-3:-1],
-                "-o",
-                f"{folder}/faults",
-                f"{folder}/faults.o",
-                archive,
-                heap_archive(),
-            ]
-        )
-        or run_wrong([f"{folder}/faults"], wanted=b"")
+        run_build([*words, *flags, "-c", source, "-o", f"{made}.o"])
+        or run_build([words[0], *sanitized, "-o", made, f"{made}.o", archive, heap_archive()])
+        or run_wrong([made], wanted=b"")
     )
 
 
@@ -105,17 +73,8 @@ def warnings(name, root, _archive, _folder):
     words, editions = ["-x", "c++"] if "++" in name else [], EDITIONS["++" in name]
     for edition in editions:
         for source in SOURCES:
-            wrong = run_build(
-                [
-                    name,
-                    *words,
-                    f"-std={edition}",
-                    *WARNINGS,
-                    f"-I{root}/include",
-                    "-fsyntax-only",
-                    f"{root}/tests/clients/{source}.c",
-                ]
-            )
+            flags = [f"-std={edition}", *WARNINGS, f"-I{root}/include", "-fsyntax-only"]
+            wrong = run_build([name, *words, *flags, f"{root}/tests/clients/{source}.c"])
             if wrong:
                 return f"{edition}: {wrong}"
     return None
@@ -126,22 +85,16 @@ def lints_in_rust(root, _archive, folder):
     need("cargo-clippy")
     words = "cargo clippy --quiet --offline --all-targets --workspace --manifest-path".split()
     words += [f"{root}/bindings/rust/Cargo.toml", *"-- -D warnings".split()]
-    return run_wrong(
-        words,
-        {**os.environ, "BOXGLUE_LIB_DIR": folder, "CARGO_TARGET_DIR": f"{folder}/target"},
-        b"",
-    )
+    return run_wrong(words, rust_environment(folder), b"")
 
 
 def unused_result(root, _archive, folder):
     """Whether a compiler warns where the status of a call is not used."""
-    with open(f"{folder}/unused.c", "w", encoding="ascii") as it:
-        it.write(
-            '#include "boxglue_typed.h"\nvoid unused(struct boxglue_typed *page);\nvoid unused(struct boxglue_typed *page) {\n    boxglue_do_kern(page, 1);\n}\n'
-        )
-    wrong = run_build(
-        [compiler(), "-std=c99", *WARNINGS, *object_words(root, f"{folder}/unused.c", folder)]
-    )
+    function = "void unused(struct boxglue_typed *page)"
+    body = f"{function};\n{function} {{\n    boxglue_do_kern(page, 1);\n}}\n"
+    write(f"{folder}/unused.c", f'#include "boxglue_typed.h"\n{body}')
+    source = object_words(root, f"{folder}/unused.c", folder)
+    wrong = run_build([compiler(), "-std=c99", *WARNINGS, *source])
     return None if wrong and "boxglue_do_kern" in wrong else f"the compiler says {wrong}"
 
 
@@ -176,13 +129,11 @@ def cases(programs, root):
         "Rust": in_rust,
         "C": in_c,
     }
-    others = {
-        f"what {it.split()[-1][5:]} refuses": partial(faults_in_c, it)
-        for it in ("cc -std=c99", "c++ -x c++ -std=c++98")
-    }
-    others |= {
-        f"warnings of {it}": partial(warnings, it) for it in ("gcc", "g++", "clang", "clang++")
-    } | {"warnings of clippy": lints_in_rust, "unused results": unused_result}
+    languages = ("cc -std=c99", "c++ -x c++ -std=c++98")
+    others = {f"what {it.split()[-1][5:]} refuses": partial(faults_in_c, it) for it in languages}
+    compilers = ("gcc", "g++", "clang", "clang++")
+    others |= {f"warnings of {it}": partial(warnings, it) for it in compilers}
+    others |= {"warnings of clippy": lints_in_rust, "unused results": unused_result}
     return [
         (name, partial(run, call, root, *programs))
         for run, its in ((outcome, calls), (alone, others))

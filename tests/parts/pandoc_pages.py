@@ -9,9 +9,9 @@ import re
 import tempfile
 from functools import partial
 
-from common.files import read, write
+from common.files import content, read, write
 from common.library_build import python_words
-from common.outcome import lacks, need, require
+from common.outcome import need, require
 from common.part import Part
 from common.running import finished
 from common.texts import last_lines
@@ -36,16 +36,13 @@ MANUAL = 100
 
 def convert(programs, root, out, document, *words):
     """Sets a document, and returns what is said."""
-    command, env = python_words(
-        root,
-        programs[0],
-        [f"{root}/examples/pandoc/pandoc_pages.py", out, document, "--family", "cm", *words],
-    )
+    program = f"{root}/examples/pandoc/pandoc_pages.py"
+    given = [program, out, document, "--family", "cm", *words]
+    command, env = python_words(root, programs[0], given)
     ran = finished(command, env=env, text=True)
-    require(
-        ran.returncode == 0, f"the status is {ran.returncode}: {last_lines(ran.stderr.encode())}"
-    )
-    require(SUMMARY.search(ran.stderr), f"there is no summary: {last_lines(ran.stderr.encode())}")
+    said = last_lines(ran.stderr.encode())
+    require(ran.returncode == 0, f"the status is {ran.returncode}: {said}")
+    require(SUMMARY.search(ran.stderr), f"there is no summary: {said}")
     return ran.stderr
 
 
@@ -61,9 +58,14 @@ class Room:
     def made(self, name, document, *words):
         """Sets a document, and returns the path of its file and what is said."""
         out = f"{self.folder}/{name}.dvi"
-        return out, convert(
-            self.programs, self.root, out, document, "--fonts", f"{self.folder}/fonts", *words
-        )
+        given = ["--fonts", f"{self.folder}/fonts", *words]
+        return out, convert(self.programs, self.root, out, document, *given)
+
+    def set(self, name, blocks, meta=None):
+        """Sets blocks, and returns what is on the pages."""
+        given = {"pandoc-api-version": [1, 22], "meta": meta or {}, "blocks": blocks}
+        write(f"{self.folder}/{name}.json", json.dumps(given))
+        return self.listing(self.made(name, f"{self.folder}/{name}.json")[0])
 
     def listing(self, dvi):
         """What `boxglue list` says of a file."""
@@ -107,19 +109,12 @@ def kinds(room):
     """All words of all kinds of blocks and inlines are there, and what is not set is said."""
     dvi, said = room.made("kinds", document(room.root, "kinds"))
     shown = "".join(pages_of(room.listing(dvi)))
-    with open(document(room.root, "kinds"), encoding="utf-8") as it:
-        words = {
-            word
-            for text in texts_in(json.load(it)["blocks"])
-            for word in re.findall(r"[A-Za-z]+", text)
-        }
+    blocks = json.loads(read(document(room.root, "kinds")))["blocks"]
+    words = {word for text in texts_in(blocks) for word in re.findall(r"[A-Za-z]+", text)}
     lost = [it for it in sorted(words) if it not in shown]
     require(not lost, f"no page shows {', '.join(lost[:5])}")
-    left = [
-        it
-        for it in ("#nowhere", "missing.png", "figure.jpg", "RawInline", "RawBlock", "mathematics")
-        if it not in said
-    ]
+    unset = "#nowhere missing.png figure.jpg RawInline RawBlock mathematics".split()
+    left = [it for it in unset if it not in said]
     require(not left, f"nothing is said of {', '.join(left)}")
 
 
@@ -175,53 +170,33 @@ def notes(room):
 
 def small(room):
     """A document without headings begins with its title, and an empty one has a page."""
-    for name, blocks in (
-        ("text", [{"t": "Para", "c": [{"t": "Str", "c": "text"}]}]),
-        ("empty", []),
-    ):
-        path = f"{room.folder}/{name}.json"
-        with open(path, "w", encoding="ascii") as it:
-            json.dump(
-                {
-                    "pandoc-api-version": [1, 22],
-                    "meta": {"title": {"t": "MetaString", "c": "Title"}},
-                    "blocks": blocks,
-                },
-                it,
-            )
-        shown = pages_of(room.listing(room.made(name, path)[0]))
-        require(
-            len(shown) == 1 and shown[0].endswith("Title" + "text" * len(blocks)),
-            f"the pages show {shown}",
-        )
+    for text in ("text", ""):
+        blocks = [{"t": "Para", "c": [{"t": "Str", "c": text}]}] if text else []
+        title = {"title": {"t": "MetaString", "c": "Title"}}
+        shown = pages_of(room.set(text or "empty", blocks, title))
+        is_shown = len(shown) == 1 and shown[0].endswith("Title" + text)
+        require(is_shown, f"the pages show {shown}")
 
 
 def long_paragraph(room):
     """A paragraph whose list has more items than one may have shows all its words."""
     words = [{"t": "Str", "c": "word"}, {"t": "Space"}] * LONG_WORDS
-    path = f"{room.folder}/long.json"
-    with open(path, "w", encoding="ascii") as it:
-        json.dump(
-            {"pandoc-api-version": [1, 22], "meta": {}, "blocks": [{"t": "Para", "c": words}]}, it
-        )
-    shown = "".join(pages_of(room.listing(room.made("long", path)[0])))
+    shown = "".join(pages_of(room.set("long", [{"t": "Para", "c": words}])))
     require(shown.count("word") == LONG_WORDS, f"the pages show {shown.count('word')} words")
 
 
 def again(room):
     """The same bytes twice."""
     files = [room.made(f"again{it}", document(room.root, "notes"))[0] for it in range(2)]
-    with open(files[0], "rb") as first, open(files[1], "rb") as second:
-        require(first.read() == second.read(), "two runs make other bytes")
+    require(content(files[0]) == content(files[1]), "two runs make other bytes")
 
 
 def several_jobs(room):
     """A document of several jobs has the pages of one, however many pages a job takes."""
     whole = room.listing(room.made("one", document(room.root, "notes"))[0])
     for most in (1, 3):
-        parts = room.listing(
-            room.made(f"jobs{most}", document(room.root, "notes"), "--job-pages", str(most))[0]
-        )
+        words = ["--job-pages", str(most)]
+        parts = room.listing(room.made(f"jobs{most}", document(room.root, "notes"), *words)[0])
         require(parts == whole, f"with {most} pages a job the pages are others")
 
 
@@ -229,22 +204,13 @@ def many_specials(room):
     """A document with more bytes of specials than a job ships has all its links, in order."""
     addresses = [f"https://example.org/{it}/{'a' * ADDRESS}" for it in range(LINKS)]
     require(2 * LINKS * ADDRESS > MOST_SPECIAL, "the links are too few")
-    blocks = [
-        {
-            "t": "Para",
-            "c": [{"t": "Link", "c": [["", [], []], [{"t": "Str", "c": f"link{at}"}], [it, ""]]}],
-        }
-        for at, it in enumerate(addresses)
-        for _ in range(2)
-    ]
-    path = f"{room.folder}/links.json"
-    with open(path, "w", encoding="ascii") as it:
-        json.dump({"pandoc-api-version": [1, 22], "meta": {}, "blocks": blocks}, it)
-    listing = room.listing(room.made("links", path)[0])
-    require(
-        re.findall(r"/URI\((.*?)\)", listing) == [it for it in addresses for _ in range(2)],
-        "the links are others",
-    )
+    blocks = []
+    for at, it in enumerate(addresses):
+        link = [["", [], []], [{"t": "Str", "c": f"link{at}"}], [it, ""]]
+        blocks += [{"t": "Para", "c": [{"t": "Link", "c": link}]}] * 2
+    listing = room.set("links", blocks)
+    wanted = [it for it in addresses for _ in range(2)]
+    require(re.findall(r"/URI\((.*?)\)", listing) == wanted, "the links are others")
     shown = [text for page in pages_of(listing) for text in re.findall(r"link\d+", page)]
     require(shown == [f"link{at}" for at in range(LINKS) for _ in range(2)], "the texts are others")
 
@@ -262,17 +228,14 @@ def types(_programs, root):
 def manual(programs, root):
     """Pandoc's own manual page, with TeX's fonts: a PDF file of more than a hundred pages, and no
     warning of dvipdfmx."""
-    absent = [it for it in map(lacks, ("pandoc", "man", "tftopl", "dvipdfmx")) if it]
-    if absent:
-        return absent[0]
+    need("pandoc", "man", "tftopl", "dvipdfmx")
     with tempfile.TemporaryDirectory(prefix="boxglue-pandoc-") as folder:
         page = finished(["man", "-w", "pandoc"], text=True).stdout.strip()
         if not page:
             return "there is no manual page of pandoc"
         text = finished(["zcat", "-f", page], check=True).stdout
-        made = finished(
-            ["pandoc", "-f", "man", "-t", "json", "-o", f"{folder}/it.json"], input=text, check=True
-        )
+        words = ["pandoc", "-f", "man", "-t", "json", "-o", f"{folder}/it.json"]
+        finished(words, input=text, check=True)
         said = convert(programs, root, f"{folder}/it.dvi", f"{folder}/it.json")
         made = finished(["dvipdfmx", "-q", "-o", f"{folder}/it.pdf", f"{folder}/it.dvi"])
         count = int(SUMMARY.search(said)[1])
@@ -294,23 +257,16 @@ def cases_of(*checks):
 
     def cases(programs, root):
         for check in checks:
-            call = (
-                partial(check, programs, root)
-                if check in (types, manual)
-                else partial(checked, check, programs, root)
+            is_alone = check in (types, manual)
+            yield check.__name__, partial(
+                *[check] if is_alone else [checked, check], programs, root
             )
-            yield check.__name__, call
 
     return cases
 
 
 def parts(_root):
     """The two parts."""
-    yield Part(
-        "pandoc_pages",
-        TITLE,
-        cases_of(kinds, notes, small, long_paragraph, again, several_jobs, many_specials, types),
-        "library",
-        True,
-    )
+    pages = kinds, notes, small, long_paragraph, again, several_jobs, many_specials, types
+    yield Part("pandoc_pages", TITLE, cases_of(*pages), "library", True)
     yield Part("pandoc_manual", MANUAL_TITLE, cases_of(manual), "library", True)

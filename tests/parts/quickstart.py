@@ -106,20 +106,15 @@ class Room:
         """Runs commands of the shell, and returns what they print."""
         for build in BUILD.findall(text):
             require(build in BUILDS, f"nothing replaces {build!r}")
-            paths = {
-                name: shlex.quote(getattr(self, name)) for name in ("root", "archive", "program")
-            }
+            names = ("root", "archive", "program")
+            paths = {name: shlex.quote(getattr(self, name)) for name in names}
             text = text.replace(build, BUILDS[build].format(**paths))
         # The Python that runs this is on the path, and not what chooses one by files in HOME.
-        env = {
-            "PATH": f"{os.path.dirname(sys.executable)}:{os.environ['PATH']}",
-            "HOME": f"{self.path}/home",
-        }
+        path = f"{os.path.dirname(sys.executable)}:{os.environ['PATH']}"
+        env = {"PATH": path, "HOME": f"{self.path}/home"}
         ran = finished(["bash", "-euo", "pipefail", "-c", text], cwd=self.path, env=env)
-        require(
-            ran.returncode == 0,
-            f"the status is {ran.returncode}: {last_lines(ran.stderr or ran.stdout)}",
-        )
+        why = last_lines(ran.stderr or ran.stdout)
+        require(ran.returncode == 0, f"the status is {ran.returncode}: {why}")
         return ran.stdout.decode()
 
     def save(self, files):
@@ -140,11 +135,8 @@ class Room:
 def room(root, archive, program):
     """The room of a program."""
     path = f"{own_folder()}/quickstart"
-    shutil.copytree(
-        f"{root}/examples",
-        f"{path}/examples",
-        ignore=shutil.ignore_patterns("__pycache__", "target"),
-    )
+    left_out = shutil.ignore_patterns("__pycache__", "target")
+    shutil.copytree(f"{root}/examples", f"{path}/examples", ignore=left_out)
     os.mkdir(f"{path}/home")
     return Room(root, path, archive, program)
 
@@ -152,10 +144,8 @@ def room(root, archive, program):
 def check_page(it):
     """The page has the letters of the script, in order."""
     listing = run(it.program, it.path, ["list", DVI, FONT])
-    require(
-        shown_on_pages(listing) == [characters(it.script().values())],
-        "the page does not show the text of the script",
-    )
+    is_shown = shown_on_pages(listing) == [characters(it.script().values())]
+    require(is_shown, "the page does not show the text of the script")
 
 
 def picture_size(data):
@@ -169,45 +159,32 @@ def check_picture(it):
     drivers may differ by a pixel."""
     columns, rows = picture_size(it.content("out/hello.png"))
     shown_columns, shown_rows = picture_size(content(f"{it.root}/docs/quickstart.png"))
-    (width,) = (
-        int(words[2].removesuffix("pt"))
-        for words in it.script().values()
-        if words[:2] == ["set", "hsize"]
-    )
+    lines = [words for words in it.script().values() if words[:2] == ["set", "hsize"]]
+    (width,) = (int(words[2].removesuffix("pt")) for words in lines)
     require(abs(columns - width / INCH * DPI) < 4, f"the picture has {columns} columns")
-    require(
-        abs(columns - shown_columns) < 2 and abs(rows - shown_rows) < 2,
-        f"docs/quickstart.png is not {columns} by {rows} pixels",
-    )
+    is_near = abs(columns - shown_columns) < 2 and abs(rows - shown_rows) < 2
+    require(is_near, f"docs/quickstart.png is not {columns} by {rows} pixels")
 
 
 def check_pdf(it):
     """The file is a whole PDF."""
     made = it.content("out/hello.pdf")
-    require(
-        made.startswith(b"%PDF-") and made.rstrip().endswith(b"%%EOF"), "out/hello.pdf is not a PDF"
-    )
+    is_whole = made.startswith(b"%PDF-") and made.rstrip().endswith(b"%%EOF")
+    require(is_whole, "out/hello.pdf is not a PDF")
 
 
 def check_marks(it):
     """The line about the marks of the document counts the letters of the script."""
-    require(
-        f"\n{len(characters(it.script().values()))} marks, " in document(it.root),
-        "the document shows another number of marks",
-    )
+    line = f"\n{len(characters(it.script().values()))} marks, "
+    require(line in document(it.root), "the document shows another number of marks")
 
 
 def check_svg(it):
     """The SVG has the letters of the script, in order."""
-    letters = [
-        ord(one.text)
-        for one in ElementTree.fromstring(it.content("out/hello-1.svg")).iter(
-            "{http://www.w3.org/2000/svg}text"
-        )
-    ]
-    require(
-        letters == characters(it.script().values()), "the SVG does not show the text of the script"
-    )
+    tree = ElementTree.fromstring(it.content("out/hello-1.svg"))
+    letters = [ord(one.text) for one in tree.iter("{http://www.w3.org/2000/svg}text")]
+    is_shown = letters == characters(it.script().values())
+    require(is_shown, "the SVG does not show the text of the script")
 
 
 # What is checked after the commands with these words.
@@ -232,9 +209,8 @@ def lacks_tool(text):
 def wanted_of(output, program):
     """The pattern of what a step has to print: a proved program has another version line than the
     document shows."""
-    return pattern(
-        output if SAYS.encode() in content(program) else output.replace(SAYS, f"{PROVED}..)")
-    )
+    is_unproved = SAYS.encode() in content(program)
+    return pattern(output if is_unproved else output.replace(SAYS, f"{PROVED}..)"))
 
 
 def outcome(root, step, exports, archive=None, program=None, *_programs):
@@ -246,10 +222,8 @@ def outcome(root, step, exports, archive=None, program=None, *_programs):
     it.save(step.files)
     printed = it.shell(f"{exports}{step.commands}")
     for output in step.output:
-        require(
-            re.fullmatch(wanted_of(output, program), printed),
-            f"it prints {printed[-300:]!r} and not {output!r}",
-        )
+        is_said = re.fullmatch(wanted_of(output, program), printed)
+        require(is_said, f"it prints {printed[-300:]!r} and not {output!r}")
     for words, check in CHECKS.items():
         if words in step.commands:
             check(it)
@@ -264,9 +238,9 @@ def form(root):
     fences = sum(len(it.files) + len(it.output) for it in found)
     builds = [build for it in found for build in BUILD.findall(it.commands)]
     checked = {words: sum(words in it.commands for it in found) for words in CHECKS}
+    marks = text.count("```")
     wrong = {
-        f"{text.count('```')} fences, of which {2 * fences} are read": text.count("```")
-        != 2 * fences,
+        f"{marks} fences, of which {2 * fences} are read": marks != 2 * fences,
         f"the builds {builds}": builds != [*BUILDS],
         f"steps with the words {checked}": {*checked.values()} != {1},
         "two outputs after one step": any(len(it.output) > 1 for it in found),
@@ -286,11 +260,10 @@ def first_page(root, archive=None, program=None, *_programs):
     """Whether README.md shows what its calls print, and begins with this document's line that
     builds and sets a page."""
     fence = re.compile(r"(?ms)^```python\n(.*?)^```$")
-    calls = fence.search(document(root, "README.md"))[1]
-    answers, builds, *_ = (
-        textwrap.dedent(it)
-        for it in re.findall(r"(?:^    +.*\n)+", fence.sub("", document(root, "README.md")), re.M)
-    )
+    readme = document(root, "README.md")
+    calls = fence.search(readme)[1]
+    found = re.findall(r"(?:^    +.*\n)+", fence.sub("", readme), re.M)
+    answers, builds, *_ = map(textwrap.dedent, found)
     words, env = python_words(root, archive, ["-c", calls])
     printed = finished(words, cwd=root, env=env, text=True).stdout
     wrong = {
@@ -307,7 +280,6 @@ def cases(programs, root):
     yield "README.md", partial(first_page, root, *programs)
     exports = ""
     for number, step in enumerate(steps(document(root)), 1):
-        yield f"step {number}: {' '.join(step.commands.split()[:3])}", partial(
-            outcome, root, step, exports, *programs
-        )
+        name = f"step {number}: {' '.join(step.commands.split()[:3])}"
+        yield name, partial(outcome, root, step, exports, *programs)
         exports += "".join(re.findall(r"^export .*\n", step.commands, re.M))
