@@ -32,13 +32,20 @@ def in_python(more, root, archive, _folder, given):
     return run_wrong(*python_words(root, archive, [driver, *given, *more]))
 
 
+def rust_words(root, archive, folder, source):
+    """The words that run a program over the binding for Rust, and their environment, or what is
+    wrong with the library."""
+    text = read(f"{root}/tests/clients/{source}")
+    words = rust_client(folder, f"{root}/bindings/rust/boxglue", text)
+    build = [f"{root}/bindings/build", "--static", archive, f"{folder}/libboxglue.a"]
+    return words, rust_environment(folder), run_build(build)
+
+
 def in_rust(root, archive, folder, given):
     """The typed calls of Rust."""
     need("cargo")
-    source = read(f"{root}/tests/clients/typed_calls.rs")
-    words = rust_client(folder, f"{root}/bindings/rust/boxglue", source)
-    build = [f"{root}/bindings/build", "--static", archive, f"{folder}/libboxglue.a"]
-    return run_build(build) or run_wrong([*words, *given, str(SAID)], rust_environment(folder))
+    words, env, wrong = rust_words(root, archive, folder, "typed_calls.rs")
+    return wrong or run_wrong([*words, *given, str(SAID)], env)
 
 
 def rust_environment(folder):
