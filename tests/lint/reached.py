@@ -102,9 +102,7 @@ def blocks(text):
             comment.append(line)
         elif DECLARED.match(line) and not line.startswith("pub use"):
             end = at + 1
-            while (
-                end < len(lines) and not is_comment(lines[end]) and not DECLARED.match(lines[end])
-            ):
+            while end < len(lines) and not (is_comment(lines[end]) or DECLARED.match(lines[end])):
                 end += 1
             found.append((at + 1, comment, lines[at:end]))
             if end < len(lines) and is_comment(lines[end]):
@@ -137,20 +135,17 @@ class Tree:
         head, pieces = blocks(text)
         found, last = {}, None
         for line, comment, lines in pieces:
-            name = DECLARED.match(lines[0])[1]
+            name, body = DECLARED.match(lines[0])[1], "\n".join(lines).rstrip()
             if last and comment is last[0]:
                 definition = last[1]
                 definition.names.append(name)
-                definition.text += "\n" + "\n".join(lines).rstrip()
+                definition.text += f"\n{body}"
             else:
-                place = f"crates/{crate}/specs/{module.replace('.', '/')}.antt:{line}"
-                definition = Definition(
-                    [name], comment_of(comment), place, [], "\n".join(lines).rstrip()
-                )
+                place = f"{os.path.relpath(path, self.root)}:{line}"
+                definition = Definition([name], comment_of(comment), place, [], body)
                 last = comment, definition
-            definition.fields += (
-                own_fields(lines[1:]) if re.search(r"\b(?:record|data)\b", lines[0]) else []
-            )
+            if re.search(r"\b(?:record|data)\b", lines[0]):
+                definition.fields += own_fields(lines[1:])
             whole = f"{definition.comment} {' '.join(it for _, it in definition.fields)}"
             sources = SOURCED.findall(whole)
             definition.source = "" if sources else (SOURCED.findall(head) or [""])[-1]
@@ -164,10 +159,9 @@ class Tree:
         """The modules of definitions of a crate, those of specs/Private too. The root files declare
         modules alone."""
         folder = f"{self.root}/crates/{crate}/specs"
-        found = (
-            os.path.relpath(it, folder)[: -len(".antt")].replace("/", ".")
-            for it in glob.glob(f"{folder}/**/*.antt", recursive=True)
-        )
+        paths = glob.glob(f"{folder}/**/*.antt", recursive=True)
+        names = (os.path.relpath(it, folder).removesuffix(".antt") for it in paths)
+        found = (it.replace("/", ".") for it in names)
         return sorted(it for it in found if it not in ("Lib", "Private"))
 
     @functools.lru_cache(None)
@@ -179,14 +173,9 @@ class Tree:
     def type_file(self, crate, name):
         """The file that declares a type of a crate; None if there is none."""
         kinds = re.compile(rf"\b(?:struct|enum|trait|type) {re.escape(name)}\b")
-        return next(
-            (
-                it
-                for it in self.files(crate)
-                if kinds.search(read(it)) and re.search(RUST.format(re.escape(name)), read(it))
-            ),
-            None,
-        )
+        whole = re.compile(RUST.format(re.escape(name)))
+        is_there = lambda text: kinds.search(text) and whole.search(text)
+        return next((it for it in self.files(crate) if is_there(read(it))), None)
 
     def resolve(self, path):
         """The name of a definition by the path of an import; None if it is none of this
@@ -197,11 +186,10 @@ class Tree:
         crate, rest = parts[1], parts[3:]
         if rest[0] == "declared":
             kinds = [it for it in rest[1:] if it in ("TheVariants", "TheConstants")]
-            name = (
-                rest[-1] if not kinds else rest[rest.index(kinds[0]) - (kinds[0] == "TheVariants")]
-            )
+            at = rest.index(kinds[0]) - (kinds[0] == "TheVariants") if kinds else -1
             if kinds == ["TheConstants"]:
-                return Name(crate, "/".join(rest[1 : rest.index("TheConstants")]), rest[-1], True)
+                return Name(crate, "/".join(rest[1:at]), rest[-1], True)
+            name = rest[at]
             return Name(crate, "", name, True) if self.type_file(crate, name) else None
         module, name = ".".join(rest[:-1]), rest[-1]
         found, (names, _) = self.module(crate, module)
@@ -216,13 +204,10 @@ class Tree:
                 found = self.resolve(f"{modules[head]}.{after}")
             else:
                 word = alone or head
-                found = (
-                    Name(crate, module, own[word].names[0])
-                    if word in own
-                    else self.resolve(names[word])
-                    if word in names
-                    else None
-                )
+                path = names.get(word)
+                found = self.resolve(path) if path else None
+                if word in own:
+                    found = Name(crate, module, own[word].names[0])
             if found:
                 yield found
 
@@ -241,18 +226,16 @@ class Tree:
         where it has none."""
         if it.module:
             return self.constant_definition(it)
-        path = self.type_file(it.crate, it.name)
+        name, path = it.name, self.type_file(it.crate, it.name)
         text = read(path)
-        match = re.search(RUST.format(re.escape(it.name)), text)
+        match = re.search(RUST.format(re.escape(name)), text)
         comment = " ".join(re.findall(r"///\s?(.*)", match[1]))
         line = text.count("\n", 0, match.end()) + 1
         body = declaration(text, match.start() + len(match[1]))
         place = f"{os.path.relpath(path, self.root)}:{line}"
         definition = Definition([it.name], comment, place, rust_fields(body), body)
         names, modules = imports(text)
-        models = [
-            whole for file in self.files(it.crate) for whole in models_of(read(file), it.name)
-        ]
+        models = [it for file in self.files(it.crate) for it in models_of(read(file), name)]
         for model in models:
             value = re.search(r"(?s)ghost Value = \{(.*?)\};", model)
             inner, inner_modules = imports(model)
@@ -268,26 +251,23 @@ class Tree:
 
     def types_in(self, body, it, text):
         """The types of this repository that the fields of a type have."""
+        first_with = lambda crates, word: next(
+            (crate for crate in crates if self.type_file(crate, word)), None
+        )
+        near = [it.crate, *dict.fromkeys(re.findall(r"(?m)^(?:pub )?use (\w+)::", text))]
         for word in dict.fromkeys(re.findall(r"\b[A-Z]\w+", body)):
-            crates = [it.crate, *dict.fromkeys(re.findall(r"(?m)^(?:pub )?use (\w+)::", text))]
-            crate = next(
-                (crate for crate in crates if word != it.name and self.type_file(crate, word)), None
-            )
+            crate = first_with(near, word) if word != it.name else None
             if not crate and re.search(rf"\buse (?!std|core)\w+::[^;]*\b{word}\b", text):
-                crate = next(
-                    (crate for crate in self.crates() if self.type_file(crate, word)), None
-                )
+                crate = first_with(self.crates(), word)
             if crate:
                 yield Name(crate, "", word, True)
 
     @functools.lru_cache(None)
     def crates(self):
         """The crates in the order of crates.txt."""
-        return [
-            it.split(":")[0].split()[0]
-            for it in read(f"{self.root}/crates.txt").splitlines()
-            if ":" in it and not it.startswith("#")
-        ]
+        lines = read(f"{self.root}/crates.txt").splitlines()
+        named = [it for it in lines if ":" in it and not it.startswith("#")]
+        return [it.split(":")[0].split()[0] for it in named]
 
     def definition(self, it):
         """The definition of a name."""
@@ -313,11 +293,8 @@ class Tree:
             elif it not in entered:
                 entered.add(it)
                 open_ones.append((it, True))
-                open_ones += [
-                    (used, False)
-                    for used in reversed(self.definition(it).uses)
-                    if used not in entered
-                ]
+                uses = reversed(self.definition(it).uses)
+                open_ones += [(used, False) for used in uses if used not in entered]
         return found
 
     def by_name(self, given):
@@ -337,25 +314,19 @@ class Tree:
                     found.append(Name(crate, module, own[name].names[0]))
             if self.type_file(crate, name):
                 found.append(Name(crate, "", name, True))
-        return found or [
-            it
-            for crate in crates or self.crates()
-            for it in self.by_function(crate, name, kind, clause)
-        ]
+        functions = (self.by_function(it, name, kind, clause) for it in crates or self.crates())
+        return found or [it for its in functions for it in its]
 
     def by_function(self, crate, name, kind=None, clause=""):
         """What the clauses of a function speak of, or one of them: of those in files that have an
         `impl` of a type or its trait, if one is named."""
-        for path in self.files(crate):
-            text = read(path)
-            if kind and not re.search(
-                rf"(?m)^(?:pub )?(?:impl|trait)\b[^{{\n]*\b{re.escape(kind)}\b", text
-            ):
+        block = rf"(?m)^(?:pub )?(?:impl|trait)\b[^{{\n]*\b{re.escape(kind)}\b" if kind else ""
+        function = rf"(?m)\b(?:pub |pub extern \"C\" |(?<=^    ))fn {re.escape(name)}\b"
+        for text in map(read, self.files(crate)):
+            if not re.search(block, text):
                 continue
             names, modules = imports(text)
-            for match in re.finditer(
-                rf"\b(?:pub |pub extern \"C\" |(?<=^    ))fn {re.escape(name)}\b", text, re.M
-            ):
+            for match in re.finditer(function, text):
                 contract = re.split(r"\n[ ]*\{|;[ ]*\n[ ]*\n", text[match.end() :], maxsplit=1)[0]
                 for found in clauses_of(re.sub(r"//[^\n]*", "", contract), clause):
                     yield from self.named(found, {}, names, modules, crate, "")
@@ -373,9 +344,8 @@ def declaration(text, at):
     """The text of a type from its first line to the end of its fields."""
     depth, end = 0, at
     for end in range(at, len(text)):
-        depth += text[end] in "{("
-        depth -= text[end] in "})"
-        if (text[end] == "}" and not depth) or (text[end] == ";" and not depth):
+        depth += (text[end] in "{(") - (text[end] in "})")
+        if text[end] in "};" and not depth:
             break
     return text[at : end + 1]
 
