@@ -70,39 +70,20 @@ class Result:
 def words_of(given):
     """Reads the command line."""
     usage = "tests/run [NAME ..] [--program PATH ..] [--rows PATH ..] [--library ARCHIVE] [--gate], tests/run --list"
-    parser = argparse.ArgumentParser(
-        usage=usage, description=ABOUT, formatter_class=argparse.RawDescriptionHelpFormatter
-    )
-    parser.add_argument(
-        "names", metavar="NAME", nargs="*", help="run these parts alone (--list names them)"
-    )
-    parser.add_argument(
-        "--program",
-        metavar="PATH",
-        nargs="+",
-        default=[],
-        help="run over these builds of boxglue, in place of building",
-    )
-    parser.add_argument(
-        "--rows",
-        metavar="PATH",
-        nargs="+",
-        default=[],
-        help="run rows_scripts over these builds of it, in place of building",
-    )
-    parser.add_argument(
-        "--library",
-        metavar="ARCHIVE",
-        help="run the tests of the library for C over this archive, in place of building it without proofs",
-    )
-    parser.add_argument(
-        "--gate",
-        action="store_true",
-        help="let no case be skipped but for a missing tool that docs/internal/GATE.md lists",
-    )
-    parser.add_argument(
-        "--list", action="store_true", help="print the names of the parts, and what each tests"
-    )
+    form = argparse.RawDescriptionHelpFormatter
+    parser = argparse.ArgumentParser(usage=usage, description=ABOUT, formatter_class=form)
+    builds, flag = {"metavar": "PATH", "nargs": "+", "default": []}, {"action": "store_true"}
+    no_archive = "run the tests of the library for C over this archive, in place of building it without proofs"
+    no_skip = "let no case be skipped but for a missing tool that docs/internal/GATE.md lists"
+    for name, about, how in (
+        ("names", "run these parts alone (--list names them)", {"metavar": "NAME", "nargs": "*"}),
+        ("--program", "run over these builds of boxglue, in place of building", builds),
+        ("--rows", "run rows_scripts over these builds of it, in place of building", builds),
+        ("--library", no_archive, {"metavar": "ARCHIVE"}),
+        ("--gate", no_skip, flag),
+        ("--list", "print the names of the parts, and what each tests", flag),
+    ):
+        parser.add_argument(name, help=about, **how)
     return parser, parser.parse_intermixed_args(given)
 
 
@@ -120,13 +101,8 @@ def pairs_of(part, programs, root):
     try:
         pairs = list(part.cases(programs, root))
         twice = [name for name, count in Counter(name for name, _ in pairs).items() if count > 1]
-        why = (
-            "there are no cases"
-            if not pairs
-            else f"two cases have one name: {twice[0]}"
-            if twice
-            else None
-        )
+        why = f"two cases have one name: {twice[0]}" if twice else None
+        why = why if pairs else "there are no cases"
     except Exception as error:
         why = f"{type(error).__name__}: {error}"
     return [("its cases", lambda: why)] if why else pairs
@@ -137,10 +113,8 @@ def programs_of(part, built, root):
     the library, and the program where no program was given."""
     given, is_given = built.get(part.program, []), any(built.values())
     if part.program == "library" and not lacking():
-        return [
-            *(given or [build_unproved(root, "library")]),
-            *(built["boxglue"] or [build_unproved(root, "program")]),
-        ]
+        archives = given or [build_unproved(root, "library")]
+        return archives + (built["boxglue"] or [build_unproved(root, "program")])
     if part.program == "boxglue" and part.needs_program and not is_given:
         return [build_unproved(root, "program")]
     return given
@@ -149,11 +123,8 @@ def programs_of(part, built, root):
 def pieces_of(part, pairs, built):
     """The cases of a part in pieces that run side by side: one piece if one run of `rt try` gives
     the results of all."""
-    return (
-        part.split(pairs)
-        if part.split and (any(built.values()) or part.needs_program or not part.tries)
-        else [pairs]
-    )
+    is_apart = any(built.values()) or part.needs_program or not part.tries
+    return part.split(pairs) if part.split and is_apart else [pairs]
 
 
 def run_piece(part, piece, built, root, say):
@@ -172,10 +143,8 @@ def run_piece(part, piece, built, root, say):
             say(f"{done} of {len(pairs)}: {name}")
         else:
             say(f"rt try, for {len(pairs)} cases")
-        result.add(
-            name,
-            why or (Skipped(f"it needs {NEEDED[part.program]}") if is_skipped else attempt(call)),
-        )
+        skipped = Skipped(f"it needs {NEEDED[part.program]}") if is_skipped else None
+        result.add(name, why or skipped or attempt(call))
     return result
 
 
@@ -183,15 +152,8 @@ def work(parts, jobs, events, built, root):
     """What a process does: pieces of parts, each by the number of its part and its own, until there
     are none."""
     for at, piece in iter(jobs.get, None):
-        events.put(
-            (
-                at,
-                piece,
-                run_piece(
-                    parts[at], piece, built, root, lambda what: events.put((at, piece, what))
-                ),
-            )
-        )
+        say = lambda what, at=at, piece=piece: events.put((at, piece, what))
+        events.put((at, piece, run_piece(parts[at], piece, built, root, say)))
     events.put(OVER)
 
 
@@ -212,9 +174,8 @@ def end_part(part, result, in_gate, root, progress):
     of anything but a listed tool has failed."""
     if in_gate:
         wrong = outside_tools.others(result.skipped, root)
-        result = Result(
-            result.passed, result.failed + wrong, [it for it in result.skipped if it not in wrong]
-        )
+        skipped = [it for it in result.skipped if it not in wrong]
+        result = Result(result.passed, result.failed + wrong, skipped)
     for line in lines_of(part, result, progress.end(part.name)):
         progress.say(line)
     return result
@@ -248,16 +209,12 @@ def run_all(parts, built, in_gate, root):
     counts = [len(pieces_of(it, pairs_of(it, [], root), built)) for it in parts]
     jobs, events = multiprocessing.Queue(), multiprocessing.SimpleQueue()
     job_count = min(lanes(), sum(counts))
-    workers = [
-        multiprocessing.Process(target=work, args=(parts, jobs, events, built, root))
-        for _ in range(job_count)
-    ]
+    given = parts, jobs, events, built, root
+    workers = [multiprocessing.Process(target=work, args=given) for _ in range(job_count)]
     for it in workers:
         it.start()
-    for job in [
-        *((at, piece) for at, count in enumerate(counts) for piece in range(count)),
-        *[None] * job_count,
-    ]:
+    pieces = [(at, piece) for at, count in enumerate(counts) for piece in range(count)]
+    for job in [*pieces, *[None] * job_count]:
         jobs.put(job)
     try:
         return heard(parts, counts, events, in_gate, root, workers)
@@ -273,9 +230,8 @@ def chosen(parser, words, root):
     parts = {it.name: it for it in all_parts(root) if it.program or not is_data}
     wrong = [it for it in words.names if it not in parts]
     if wrong:
-        parser.error(
-            f"no part {wrong[0]}{' runs built programs' if is_data else ''}: the names are {' '.join(parts)}"
-        )
+        how = " runs built programs" if is_data else ""
+        parser.error(f"no part {wrong[0]}{how}: the names are {' '.join(parts)}")
     return [it for name, it in parts.items() if name in words.names or not words.names]
 
 
@@ -290,16 +246,11 @@ def main(root, given):
         return 0
     if words.gate and not (words.program and words.rows and words.library):
         parser.error("--gate needs --program, --rows and --library")
-    built = {
-        "boxglue": [*map(os.path.abspath, words.program)],
-        "rows_scripts": [*map(os.path.abspath, words.rows)],
-    }
-    absent = [
-        f"program {it}"
-        for paths in built.values()
-        for it in paths
-        if not os.access(it, os.X_OK) or os.path.isdir(it)
-    ]
+    paths = {"boxglue": words.program, "rows_scripts": words.rows}
+    built = {name: [*map(os.path.abspath, its)] for name, its in paths.items()}
+    is_program = lambda it: os.access(it, os.X_OK) and not os.path.isdir(it)
+    programs = [it for its in built.values() for it in its]
+    absent = [f"program {it}" for it in programs if not is_program(it)]
     if words.library:
         built["library"] = [os.path.abspath(words.library)]
         absent += [f"archive {it}" for it in built["library"] if not os.path.isfile(it)]
@@ -309,9 +260,8 @@ def main(root, given):
         return 1
     signal.signal(signal.SIGTERM, lambda number, _: sys.exit(128 + number))
     results = run_all(parts, built, words.gate, root)
-    passed, failed, skipped = (
-        sum(it) for it in zip(*((it.passed, len(it.failed), len(it.skipped)) for it in results))
-    )
+    counts = [(it.passed, len(it.failed), len(it.skipped)) for it in results]
+    passed, failed, skipped = map(sum, zip(*counts))
     if words.gate:
         print(outside_tools.note([case for it in results for case in it.skipped], root))
     print(f"{NOTHING_PROVED}\n{passed} passed, {failed} failed, {skipped} skipped", flush=True)
