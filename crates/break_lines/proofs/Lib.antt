@@ -10,6 +10,8 @@ pub mod KeptSums
 pub mod Smalls
 pub mod Amounts
 pub mod Walks
+pub mod Tallest
+pub mod KeptSteps
 pub mod Marked
 pub mod Rising
 pub mod Steadiness

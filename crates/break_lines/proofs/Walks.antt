@@ -1,6 +1,6 @@
 -- One step of the walk that measures a list.
 use Rattle.std.proofs.Common.{◌≡◌, ◌≢◌, ◌∙◌, ℕ, zero, suc, ◌+◌, ◌<◌, ◌≤◌, Bool, true, false, List, [], ◌∷◌, ◌++◌, ◌-◌, length, length-append, append_assoc, drop, drop_of_length-le, map, reverse, get_or, drop-cons, refl, ap, sym, subst, arith, Option, Some, None}
-use Rattle.std.specs.Prelude.{ℤ, negsuc, ◌+ℤ◌, slice_get, IsSome, nat_lt}
+use Rattle.std.specs.Prelude.{ℤ, pos, negsuc, ◌+ℤ◌, slice_get, IsSome, nat_lt, ◌||◌}
 use Rattle.std.specs.List.{filter, list_any}
 use Rattle.std.proofs.Math.Logic.{◌⊎◌, inl, inr}
 use Rattle.std.proofs.lemmas.Int.{ints}
@@ -11,24 +11,25 @@ use Rattle.std.proofs.lemmas.Option.{same_Some, slice_get_past}
 use Rattle.node_core.specs.declared.tree.Node.{Node}
 use Rattle.node_core.specs.declared.tree.Node.TheVariants as nodes
 use Rattle.node_core.specs.declared.tree.Order.TheVariants.{Normal, Fil, Fill, Filll}
-use Rattle.node_core.specs.Classes.{shrinks_infinitely}
-use Rattle.pack_core.specs.Items.{item_width, stretch_in, shrink_in}
+use Rattle.node_core.specs.Classes.{shrinks_infinitely, has_content}
+use Rattle.pack_core.specs.Items.{item_width, height_above_baseline, depth_below_baseline, stretch_in, shrink_in}
 use Rattle.pack_core.specs.Totals.{total}
 use Rattle.break_lines.specs.Problems.{max_places}
-use Rattle.node_core.specs.Nodes.{max_nodes}
+use Rattle.node_core.specs.Nodes.{max_nodes, IsPlain}
 use Rattle.break_lines.specs.declared.sums.Sums.{Sums}
+use Rattle.break_lines.specs.declared.item_sums.RunSizes.{RunSizes}
 use Rattle.break_lines.specs.declared.mark.MeasuredBreak.{MeasuredBreak}
 use Rattle.break_lines.specs.declared.walk.BreakWalk.{BreakWalk}
 use Rattle.break_lines.specs.Legal.{is_dropped, up_to, is_legal, is_break, node_before, legal_places, penalty_of}
 use Rattle.break_lines.specs.LineItems.{sums_of, next_kept}
 use Rattle.break_lines.specs.Facts.{refusal}
-use Rattle.break_lines.specs.Private.Marks.{amounts_of, plus, no_sums, measured_break, width_in_run, has_negative_stretch, HasMeasuredFrom}
+use Rattle.break_lines.specs.Private.Marks.{amounts_of, plus, no_sums, measured_break, sizes_in_run, has_negative_stretch, HasMeasuredFrom}
 use Rattle.break_lines.specs.Private.SmallMarks.{IsPrefix, IsSmallMark, AreSmallMarks}
 use Rattle.break_lines.proofs.Amounts.{wider}
 use Rattle.break_lines.proofs.Places.{filter_passed, filter_refused, count_passed, lead_dropped, lead_kept, lead_end}
 
 -- The items from an index on are the item there and the items after it.
-rest_is : (list : List Node) (i : ℕ) (x : Node) → i < length list → x ≡ get_or list i x → drop i list ≡ x ∷ drop (i + 1) list
+pub rest_is : (list : List Node) (i : ℕ) (x : Node) → i < length list → x ≡ get_or list i x → drop i list ≡ x ∷ drop (i + 1) list
 rest_is list i x within is =
     let one : i + 1 ≡ suc i = omega arith in
     drop-cons list i x within ∙ ap (λ y. y ∷ drop (suc i) list) (sym is) ∙ ap (λ n. x ∷ drop n list) (sym one)
@@ -92,8 +93,8 @@ kept_is_no_place list i x within is kept =
     ∙ no_break (node_before list i) (slice_get list (i + 1)) x kept
 
 -- A glyph or a font kern adds only its width.
-pub run_kept : (x : Node) (w : ℤ) → width_in_run x ≡ Some w → is_dropped x ≡ false
-unfolding is_dropped width_in_run
+pub run_kept : (x : Node) (w : RunSizes) → sizes_in_run x ≡ Some w → is_dropped x ≡ false
+unfolding is_dropped sizes_in_run
 run_kept (nodes.Glyph glyph) w is = refl
 run_kept (nodes.FontKern width) w is = refl
 run_kept (nodes.Kern width) w is = absurd (cc)
@@ -103,10 +104,12 @@ run_kept (nodes.Rule rule) w is = absurd (cc)
 run_kept (nodes.Special text) w is = absurd (cc)
 run_kept (nodes.Box shift b) w is = absurd (cc)
 
-run_amounts : (x : Node) (w : ℤ) → width_in_run x ≡ Some w → amounts_of x ≡ record no_sums { width = w }
-unfolding width_in_run
-run_amounts (nodes.Glyph glyph) w is = ap (λ z. record no_sums { width = z }) (same_Some glyph.width w is)
-run_amounts (nodes.FontKern width) w is = ap (λ z. record no_sums { width = z }) (same_Some width w is)
+run_amounts : (x : Node) (w : RunSizes) → sizes_in_run x ≡ Some w → amounts_of x ≡ record no_sums { width = w.width }
+unfolding sizes_in_run
+run_amounts (nodes.Glyph glyph) w is =
+    ap (λ (z : RunSizes). record no_sums { width = z.width }) (same_Some (record { width = glyph.width; height = glyph.height; depth = glyph.depth }) w is)
+run_amounts (nodes.FontKern width) w is =
+    ap (λ (z : RunSizes). record no_sums { width = z.width }) (same_Some (record { width = width; height = pos 0; depth = pos 0 }) w is)
 run_amounts (nodes.Kern width) w is = absurd (cc)
 run_amounts (nodes.Glue glue) w is = absurd (cc)
 run_amounts (nodes.Penalty penalty) w is = absurd (cc)
@@ -114,8 +117,8 @@ run_amounts (nodes.Rule rule) w is = absurd (cc)
 run_amounts (nodes.Special text) w is = absurd (cc)
 run_amounts (nodes.Box shift b) w is = absurd (cc)
 
-pub run_sums : (x : Node) (w : ℤ) (s : Sums) → width_in_run x ≡ Some w → record s { width = s.width +ℤ w } ≡ plus s (amounts_of x)
-run_sums x w s is = wider s w ∙ ap (plus s) (sym (run_amounts x w is))
+pub run_sums : (x : Node) (w : RunSizes) (s : Sums) → sizes_in_run x ≡ Some w → record s { width = s.width +ℤ w.width } ≡ plus s (amounts_of x)
+run_sums x w s is = wider s w.width ∙ ap (plus s) (sym (run_amounts x w is))
 
 pub kept_grows : (x : Node) → is_dropped x ≡ false → has_negative_stretch x ≡ false
 unfolding is_dropped
@@ -136,6 +139,62 @@ grows_more list i x within is grows rest =
     let same = ap (list_any has_negative_stretch) (rest_is list i x within is) in
     cc
 
+-- With one more item there is still no box and no special.
+pub plain_more :
+    (list : List Node) (i : ℕ) (x : Node) → i < length list → x ≡ get_or list i x → has_content x ≡ false → IsPlain (drop (i + 1) list) → IsPlain (drop i list)
+plain_more list i x within is none rest =
+    let same = ap (list_any has_content) (rest_is list i x within is) in
+    cc
+
+pub run_plain : (x : Node) (w : RunSizes) → sizes_in_run x ≡ Some w → has_content x ≡ false
+unfolding sizes_in_run
+run_plain (nodes.Glyph glyph) w is = refl
+run_plain (nodes.FontKern width) w is = refl
+run_plain (nodes.Kern width) w is = absurd (cc)
+run_plain (nodes.Glue glue) w is = absurd (cc)
+run_plain (nodes.Penalty penalty) w is = absurd (cc)
+run_plain (nodes.Rule rule) w is = absurd (cc)
+run_plain (nodes.Special text) w is = absurd (cc)
+run_plain (nodes.Box shift b) w is = absurd (cc)
+
+pub dropped_plain : (x : Node) → is_dropped x ≡ true → has_content x ≡ false
+unfolding is_dropped
+dropped_plain (nodes.Glyph glyph) is = absurd (cc)
+dropped_plain (nodes.FontKern width) is = absurd (cc)
+dropped_plain (nodes.Kern width) is = refl
+dropped_plain (nodes.Glue glue) is = refl
+dropped_plain (nodes.Penalty penalty) is = refl
+dropped_plain (nodes.Rule rule) is = absurd (cc)
+dropped_plain (nodes.Special text) is = absurd (cc)
+dropped_plain (nodes.Box shift b) is = absurd (cc)
+
+-- The height and the depth of a glyph or a font kern.
+pub run_height : (x : Node) (w : RunSizes) → sizes_in_run x ≡ Some w → w.height ≡ height_above_baseline x
+unfolding sizes_in_run
+run_height (nodes.Glyph glyph) w is =
+    sym (ap (λ (z : RunSizes). z.height) (same_Some (record { width = glyph.width; height = glyph.height; depth = glyph.depth }) w is))
+run_height (nodes.FontKern width) w is =
+    sym (ap (λ (z : RunSizes). z.height) (same_Some (record { width = width; height = pos 0; depth = pos 0 }) w is))
+run_height (nodes.Kern width) w is = absurd (cc)
+run_height (nodes.Glue glue) w is = absurd (cc)
+run_height (nodes.Penalty penalty) w is = absurd (cc)
+run_height (nodes.Rule rule) w is = absurd (cc)
+run_height (nodes.Special text) w is = absurd (cc)
+run_height (nodes.Box shift b) w is = absurd (cc)
+
+pub run_depth : (x : Node) (w : RunSizes) → sizes_in_run x ≡ Some w → w.depth ≡ depth_below_baseline x
+unfolding sizes_in_run
+run_depth (nodes.Glyph glyph) w is =
+    sym (ap (λ (z : RunSizes). z.depth) (same_Some (record { width = glyph.width; height = glyph.height; depth = glyph.depth }) w is))
+run_depth (nodes.FontKern width) w is =
+    sym (ap (λ (z : RunSizes). z.depth) (same_Some (record { width = width; height = pos 0; depth = pos 0 }) w is))
+run_depth (nodes.Kern width) w is = absurd (cc)
+run_depth (nodes.Glue glue) w is = absurd (cc)
+run_depth (nodes.Penalty penalty) w is = absurd (cc)
+run_depth (nodes.Rule rule) w is = absurd (cc)
+run_depth (nodes.Special text) w is = absurd (cc)
+run_depth (nodes.Box shift b) w is = absurd (cc)
+
 -- With one more item there is still no glue that shrinks in an infinite order.
 pub finite_more :
     (list : List Node) (i : ℕ) (x : Node) → i < length list → x ≡ get_or list i x → shrinks_infinitely x ≡ false
@@ -145,22 +204,26 @@ finite_more list i x within is finite rest =
     cc
 
 -- The marks of the places from an index on, after one more item is passed.
+pub places_stay :
+    {A : Type 0} (f : ℕ → A) (list : List Node) (i : ℕ) (later all : List A) → is_legal list i ≡ false
+    → map f (filter (is_legal list) (up_to (i + 1))) ++ later ≡ all → map f (filter (is_legal list) (up_to i)) ++ later ≡ all
+places_stay f list i later all other is = ap (λ ps. map f ps ++ later) (sym (filter_refused (is_legal list) i other)) ∙ is
+
 pub marks_stay :
     (list : List Node) (i : ℕ) (later all : List MeasuredBreak) → is_legal list i ≡ false
     → map (measured_break list) (filter (is_legal list) (up_to (i + 1))) ++ later ≡ all
     → map (measured_break list) (filter (is_legal list) (up_to i)) ++ later ≡ all
-marks_stay list i later all other is = ap (λ ps. map (measured_break list) ps ++ later) (sym (filter_refused (is_legal list) i other)) ∙ is
+marks_stay list i later all other is = places_stay (measured_break list) list i later all other is
 
 map-append : {A B : Type 0} (f : A → B) (xs ys : List A) → map f (xs ++ ys) ≡ map f xs ++ map f ys
 map-append f [] ys = refl
 map-append f (x ∷ xs) ys = ap (λ zs. f x ∷ zs) (map-append f xs ys)
 
-pub marks_more :
-    (list : List Node) (i : ℕ) (later now : List MeasuredBreak) (mark : MeasuredBreak) (all : List MeasuredBreak) → is_legal list i ≡ true → mark ≡ measured_break list i
-    → now ≡ later ++ mark ∷ [] → map (measured_break list) (filter (is_legal list) (up_to (i + 1))) ++ reverse later ≡ all
-    → map (measured_break list) (filter (is_legal list) (up_to i)) ++ reverse now ≡ all
-marks_more list i later now mark all legal here items is =
-    let f = measured_break list in
+pub places_more :
+    {A : Type 0} (f : ℕ → A) (list : List Node) (i : ℕ) (later now : List A) (mark : A) (all : List A) → is_legal list i ≡ true → mark ≡ f i
+    → now ≡ later ++ mark ∷ [] → map f (filter (is_legal list) (up_to (i + 1))) ++ reverse later ≡ all
+    → map f (filter (is_legal list) (up_to i)) ++ reverse now ≡ all
+places_more f list i later now mark all legal here items is =
     let earlier = filter (is_legal list) (up_to i) in
     let both : map f (filter (is_legal list) (up_to (i + 1))) ≡ map f earlier ++ f i ∷ [] =
     ap (map f) (filter_passed (is_legal list) i legal) ∙ map-append f earlier (i ∷ []) in
@@ -169,23 +232,11 @@ marks_more list i later now mark all legal here items is =
     ap (λ ms. map f earlier ++ ms) one ∙ sym (append_assoc (map f earlier) (f i ∷ []) (reverse later))
     ∙ ap (λ ms. ms ++ reverse later) (sym both) ∙ is
 
--- The walk after one more item that is not dropped at the beginning of a line.
-pub one_kept :
-    (list : List Node) (i : ℕ) (x : Node) (walk : BreakWalk) (sums : Sums) → i < length list → x ≡ get_or list i x → is_dropped x ≡ false
-    → sums ≡ plus walk.sums (amounts_of x) → IsPrefix (length list - i) sums → HasMeasuredFrom list (i + 1) walk
-    → HasMeasuredFrom list i (record walk { sums = sums; begin = i })
-one_kept list i x walk sums within is kept more small old = record {
-  marks = marks_stay list i (reverse walk.marks.items) _ (kept_is_no_place list i x within is kept) old.marks;
-  few = old.few;
-  small_marks = old.small_marks;
-  sums = more ∙ ap (λ s. plus s (amounts_of x)) old.sums ∙ sym (sums_back list i x within is);
-  small_sums = small;
-  begin = sym (next_here list i x within is kept);
-  from_begin = λ other. absurd (other refl);
-  small_begin = old.small_begin;
-  finite = finite_more list i x within is (kept_finite x kept) old.finite;
-  grows = λ on. grows_more list i x within is (kept_grows x kept) (old.grows on);
-}
+pub marks_more :
+    (list : List Node) (i : ℕ) (later now : List MeasuredBreak) (mark : MeasuredBreak) (all : List MeasuredBreak) → is_legal list i ≡ true → mark ≡ measured_break list i
+    → now ≡ later ++ mark ∷ [] → map (measured_break list) (filter (is_legal list) (up_to (i + 1))) ++ reverse later ≡ all
+    → map (measured_break list) (filter (is_legal list) (up_to i)) ++ reverse now ≡ all
+marks_more list i later now mark all legal here items is = places_more (measured_break list) list i later now mark all legal here items is
 
 -- The sums from the first item on that is not dropped.
 pub start_known :
@@ -220,6 +271,9 @@ none_left list = ap sums_of (sym (drop_of_length-le list (omega arith)))
 
 pub none_dropped : (list : List Node) → list_any shrinks_infinitely (drop (length list) list) ≡ false
 none_dropped list = ap (list_any shrinks_infinitely) (drop_of_length-le list (omega arith))
+
+pub none_content : (list : List Node) → IsPlain (drop (length list) list)
+none_content list = ap (list_any has_content) (drop_of_length-le list (omega arith))
 
 pub none_negative : (list : List Node) → list_any has_negative_stretch (drop (length list) list) ≡ false
 none_negative list = ap (list_any has_negative_stretch) (drop_of_length-le list (omega arith))
@@ -263,6 +317,21 @@ too_many list i later legal many is =
     omega (arith, front, all, length-append (map f earlier) (reverse later), length-map f earlier, length-map f (legal_places list), length-reverse later, many) in
     let test : nat_lt max_places (length (legal_places list)) ≡ true = grind (arith, nat_tests) in
     refused _ true list refl test (inr refl)
+
+or_true : (a : Bool) → (a || true) ≡ true
+or_true true = refl
+or_true false = refl
+
+any_at :
+    (list : List Node) (i : ℕ) (x : Node) → i < length list → x ≡ get_or list i x → shrinks_infinitely x ≡ true → list_any shrinks_infinitely list ≡ true
+any_at [] i x within is on = absurd (omega arith)
+any_at (y ∷ list) zero x within is on = ap (λ b. b || list_any shrinks_infinitely list) (ap shrinks_infinitely (sym is) ∙ on)
+any_at (y ∷ list) (suc i) x within is on =
+    ap (λ b. shrinks_infinitely y || b) (any_at list i x (omega arith) is on) ∙ or_true (shrinks_infinitely y)
+
+pub infinite_refused :
+    (list : List Node) (i : ℕ) (x : Node) → i < length list → x ≡ get_or list i x → shrinks_infinitely x ≡ true → IsSome (refusal list)
+infinite_refused list i x within is on = refused true _ list (any_at list i x within is on) refl (inl refl)
 
 pub not_refused :
     (list : List Node) (marks : List MeasuredBreak) → list_any shrinks_infinitely list ≡ false → length marks ≤ max_places

@@ -7,6 +7,7 @@ pub mod Sizes
 pub mod Examples
 pub mod Legal
 pub mod LineItems
+pub mod Spans
 pub mod Facts
 pub mod Steady
 pub mod Even

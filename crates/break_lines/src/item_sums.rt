@@ -8,22 +8,38 @@ ghost use Rattle.scaled_core.specs.Dimensions.{Within};
 ghost use Rattle.node_core.specs.declared.tree.Node.TheVariants as nodes;
 ghost use Rattle.node_core.specs.Nodes.{max_nodes};
 ghost use Rattle.break_lines.specs.LineItems.{minus, IsSmallSums};
-ghost use Rattle.break_lines.specs.Private.Marks.{amounts_of, plus, width_in_run, stretch_alone, shrink_alone};
+ghost use Rattle.break_lines.specs.Private.Marks.{amounts_of, plus, sizes_in_run, stretch_alone, shrink_alone};
 ghost use Rattle.break_lines.specs.Private.SmallMarks.{IsPrefix};
 
 pub use crate::sums::Sums;
 use node_core::{Glue, Kind, Node, Order};
 use pack_core::advance_of;
 
-/// The width of a glyph or a font kern, in scaled points: all that it adds to the sums. None for other items.
-#[tactic(auto, unfolding(crate::specs::Private::Marks::width_in_run))]
-pub fn width_in_run(node: &Node) -> Option<i64>
-    ensures value { result ≡ width_in_run node.now }
-    ensures width_bounded { IfSome result (Within (2 ^ 31)) }
+/// The width, the height and the depth of a glyph or a font kern, in scaled points.
+#[derive(Clone, Copy, Debug)]
+pub struct RunSizes {
+    pub width: i64,
+    pub height: i32,
+    pub depth: i32,
+}
+
+/// The sizes of a glyph or a font kern: its width is all that it adds to the sums. None for other items.
+#[tactic(auto, unfolding(crate::specs::Private::Marks::sizes_in_run))]
+pub fn sizes_in_run(node: &Node) -> Option<RunSizes>
+    ensures value { result ≡ sizes_in_run node.now }
+    ensures width_bounded { IfSome result (λ sizes. Within (2 ^ 31) sizes.width) }
 {
     match node {
-        Node::Glyph(glyph) => Some(i64::from(glyph.width.get())),
-        Node::FontKern(width) => Some(i64::from(width.get())),
+        Node::Glyph(glyph) => Some(RunSizes {
+            width: i64::from(glyph.width.get()),
+            height: glyph.height.get(),
+            depth: glyph.depth.get(),
+        }),
+        Node::FontKern(width) => Some(RunSizes {
+            width: i64::from(width.get()),
+            height: 0,
+            depth: 0,
+        }),
         _ => None,
     }
 }

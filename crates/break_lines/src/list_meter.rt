@@ -9,6 +9,8 @@ ghost use Rattle.break_lines.specs.Even.{IsEven};
 ghost use Rattle.node_core.specs.Nodes.{max_nodes};
 ghost use Rattle.break_lines.specs.Problems.{max_places};
 ghost use Rattle.break_lines.specs.Legal.{legal_places};
+ghost use Rattle.break_lines.specs.Spans.{AreSizesOf};
+ghost use Rattle.break_lines.specs.LineItems.{IsSmallSums};
 ghost use Rattle.break_lines.specs.Private.Marks.{marks_of};
 ghost use Rattle.break_lines.specs.Private.SmallMarks.{AreSmallMarks};
 
@@ -16,6 +18,7 @@ use crate::dividing::is_divided;
 use crate::even::is_even;
 use crate::fault::BreakFault;
 use crate::item_sums::Sums;
+use crate::line_sizes::LineSizes;
 use crate::list::{no_trials, refusal};
 use crate::mark::MeasuredBreak;
 use crate::meter::{Breakpoint, Meter};
@@ -46,12 +49,17 @@ pub struct ListMeter<'a> {
 }
 
 impl<'a> ListMeter<'a> {
-    /// The meter of a list of nodes that is not too long, without trials, or `None` if the list is refused.
-    fn of(alloc: Global, nodes: &'a [Node]) -> Result<Option<ListMeter<'a>>, AllocError>
+    /// The meter of a list of nodes that is not too long, without trials, and what the sizes of its lines follow from; or `None` if the list is
+    /// refused.
+    fn of(
+        alloc: Global,
+        nodes: &'a [Node],
+    ) -> Result<Option<(ListMeter<'a>, LineSizes)>, AllocError>
         requires list_bounded { length nodes.now ≤ max_nodes }
-        ensures refused { IfOk result (λ found. MatchOption found (IsSome (refusal nodes.now)) (λ meter. refusal nodes.now ≡ None)) }
-        ensures nodes { IfOk result (λ found. IfSome found (λ meter. meter.nodes.now ≡ nodes.now)) }
-        ensures trials { IfOk result (λ found. IfSome found (λ meter. (place : ℕ) → get_or meter.trials.items place 0 ≡ 0)) }
+        ensures refused { IfOk result (λ found. MatchOption found (IsSome (refusal nodes.now)) (λ known. refusal nodes.now ≡ None)) }
+        ensures nodes { IfOk result (λ found. IfSome found (λ known. known.0.nodes.now ≡ nodes.now)) }
+        ensures trials { IfOk result (λ found. IfSome found (λ known. (place : ℕ) → get_or known.0.trials.items place 0 ≡ 0)) }
+        ensures sizes { IfOk result (λ found. IfSome found (λ known. AreSizesOf nodes.now known.1)) }
     {
         let Some(marked) = marks_of(alloc, nodes)? else {
             return Ok(None);
@@ -59,17 +67,24 @@ impl<'a> ListMeter<'a> {
         let MarkedList {
             marks,
             stretch_grows,
+            sizes,
+            plain,
         } = marked;
         let trials = no_trials(alloc, marks.len())?;
         let steady = is_steady(&marks);
         let even = is_even(&marks, stretch_grows);
-        Ok(Some(ListMeter {
+        let meter = ListMeter {
             nodes,
             marks,
             steady,
             even,
             trials,
-        }))
+        };
+        let sizes = LineSizes {
+            places: sizes,
+            plain,
+        };
+        Ok(Some((meter, sizes)))
     }
 
     /// The meter of a finished list of at most 131,072 nodes, without trials. One walk measures it; the reason for a refusal is looked for only if
@@ -84,8 +99,24 @@ impl<'a> ListMeter<'a> {
         ensures fits { OnOk result (refusal nodes.now ≡ None) }
         ensures fault { IfErr result (λ fault. fault ≡ unwrap_or (refusal nodes.now) BreakFault.OutOfMemory) }
     {
+        let (meter, _) = ListMeter::with_sizes(alloc, nodes)?;
+        Ok(meter)
+    }
+
+    /// The meter of a finished list, as `new`, and what the sizes of its lines follow from: the walk that measures the list finds it too.
+    pub fn with_sizes(
+        alloc: Global,
+        nodes: &'a [Node],
+    ) -> Result<(ListMeter<'a>, LineSizes), BreakFault>
+        requires list_bounded { length nodes.now ≤ max_nodes }
+        ensures facts { IfOk result (λ known. ⟦<ListMeter<'a> as Meter>⟧.facts known.0 ≡ facts_of nodes.now) }
+        ensures trials { IfOk result (λ known. (place : ℕ) → ⟦<ListMeter<'a> as Meter>⟧.trials known.0 place ≡ 0) }
+        ensures sizes { IfOk result (λ known. AreSizesOf nodes.now known.1) }
+        ensures fits { OnOk result (refusal nodes.now ≡ None) }
+        ensures fault { IfErr result (λ fault. fault ≡ unwrap_or (refusal nodes.now) BreakFault.OutOfMemory) }
+    {
         match ListMeter::of(alloc, nodes) {
-            Ok(Some(meter)) => Ok(meter),
+            Ok(Some(known)) => Ok(known),
             _ => Err(refusal(nodes).unwrap_or(BreakFault::OutOfMemory)),
         }
     }
@@ -98,6 +129,16 @@ impl<'a> ListMeter<'a> {
             Some(trials) => *trials,
             None => 0,
         }
+    }
+
+    /// The sums over the items of a line, as `try_line`, but the line is not counted as a trial.
+    pub fn sums_between(&self, from: usize, to: usize) -> Sums
+        requires later { from < to }
+        requires last { to ≤ (⟦<ListMeter<'a> as Meter>⟧.facts self.now).places }
+        ensures sums { result ≡ (⟦<ListMeter<'a> as Meter>⟧.facts self.now).sums from to }
+        ensures sums_bounded { IsSmallSums result }
+    {
+        self.marks[from].line_to(&self.marks[to])
     }
 
     /// The number of all lines that were tried.

@@ -1,13 +1,17 @@
 //! The walk that measures a list, from its end to its beginning.
 
-ghost use Rattle.std.specs.Prelude.{◌≡◌, ◌≢◌, ◌+◌, ◌<◌, ◌≤◌, true, false, length, get_or, vec_capacity, vec_len, IfSome, IsSome, IfOk, OnOk};
+ghost use Rattle.std.specs.Prelude.{◌≡◌, ◌≢◌, ◌+◌, ◌<◌, ◌≤◌, true, false, length, get_or, reverse, vec_capacity, vec_len, IfSome, IsSome, IfOk, OnOk};
 ghost use Rattle.std.specs.Prelude.{MatchOption};
 ghost use Rattle.std.specs.List.{list_any};
-ghost use Rattle.node_core.specs.Nodes.{max_nodes};
+ghost use Rattle.node_core.specs.Classes.{has_content};
+ghost use Rattle.node_core.specs.Nodes.{max_nodes, IsPlain};
 ghost use Rattle.break_lines.specs.Facts.{refusal};
+ghost use Rattle.break_lines.specs.Spans.{sizes_of};
 ghost use Rattle.break_lines.specs.Private.Marks.{HasMeasuredFrom, IsMarked, has_negative_stretch};
 
-use crate::item_sums::{Sums, add_item, width_in_run};
+use crate::heights::{depth_of, height_of};
+use crate::item_sums::{Sums, add_item, sizes_in_run};
+use crate::line_sizes::PlaceSizes;
 use crate::list::{MAX_PLACES, has_negative_stretch, is_dropped, is_legal, penalty_at};
 use crate::mark::MeasuredBreak;
 use node_core::Node;
@@ -15,21 +19,29 @@ use std::alloc::{AllocError, Global};
 
 /// The state of a walk over the items from some index to the end: the marks of the legal places there, in reverse order, the sums over these items,
 /// the index of the first of them that is not dropped at the beginning of a line, and the sums from that item on. `from_begin` is set only if an item
-/// before `begin` was passed. `stretch_grows` says that none of the items is glue with negative stretch.
+/// before `begin` was passed. `stretch_grows` says that none of the items is glue with negative stretch, and `plain` that none is a box or a special.
+/// `sizes` has the same places as `marks`; `height` and `depth` are the greatest ones, at least 0, of the items before the first of these places.
 #[derive(Drop)]
 struct BreakWalk {
     marks: Vec<MeasuredBreak>,
+    sizes: Vec<PlaceSizes>,
     sums: Sums,
     begin: usize,
     from_begin: Sums,
     stretch_grows: bool,
+    height: i32,
+    depth: i32,
+    plain: bool,
 }
 
-/// The marks of the start and of the legal places of a list, in order, and whether it is known that none of its glue has negative stretch.
+/// The marks of the start and of the legal places of a list, in order, whether it is known that none of its glue has negative stretch, the sizes of
+/// the same places, the last one first, and whether none of its items is a box or a special.
 #[derive(Drop)]
 pub struct MarkedList {
     pub marks: Vec<MeasuredBreak>,
     pub stretch_grows: bool,
+    pub sizes: Vec<PlaceSizes>,
+    pub plain: bool,
 }
 
 /// Whether the stretch of all glue is known not to be negative, with one more item.
@@ -39,6 +51,15 @@ fn still_grows(grows: bool, node: &Node) -> bool
     ensures here { result ≡ true → has_negative_stretch node.now ≡ false }
 {
     grows && !has_negative_stretch(node)
+}
+
+/// Whether it is known that no item is a box or a special, with one more item.
+#[inline(always)]
+fn still_plain(plain: bool, node: &Node) -> bool
+    ensures before { result ≡ true → plain ≡ true }
+    ensures here { result ≡ true → has_content node.now ≡ false }
+{
+    plain && !node.has_content()
 }
 
 /// Makes space for one more mark. There nearly always is some, and then this is one test.
@@ -68,12 +89,23 @@ impl BreakWalk {
             from_begin: Sums::ZERO,
             penalty: -10_000,
         })?;
+        let mut sizes = Vec::with_capacity(alloc, (nodes.len() / 5).min(MAX_PLACES) + 2)?;
+        sizes.push(PlaceSizes {
+            position: nodes.len(),
+            begin: nodes.len() + 1,
+            height: 0,
+            depth: 0,
+        })?;
         Ok(BreakWalk {
             marks,
+            sizes,
             sums: Sums::ZERO,
             begin: nodes.len(),
             from_begin: Sums::ZERO,
             stretch_grows: true,
+            height: 0,
+            depth: 0,
+            plain: true,
         })
     }
 
@@ -90,7 +122,8 @@ impl BreakWalk {
     }
 
     /// Passes the glyphs and font kerns directly before the items that were passed, and returns the index of the first of them. They are most items
-    /// of a text, and each changes only the width; so they have a loop of their own, which keeps what changes out of memory.
+    /// of a text, and each changes only the width, the height and the depth; so they have a loop of their own, which keeps what changes out of
+    /// memory.
     fn pass_run(&mut self, nodes: &[Node], end: usize) -> usize
         requires list_bounded { length nodes.now ≤ max_nodes }
         requires end_bounded { end ≤ length nodes.now }
@@ -101,16 +134,22 @@ impl BreakWalk {
         let mut index = end;
         let mut width = self.sums.width;
         let mut begin = self.begin;
+        let mut height = self.height;
+        let mut depth = self.depth;
         while index > 0 {
-            let Some(more) = width_in_run(&nodes[index - 1]) else {
+            let Some(more) = sizes_in_run(&nodes[index - 1]) else {
                 break;
             };
             index -= 1;
-            width += more;
+            width += more.width;
             begin = index;
+            height = height.max(more.height);
+            depth = depth.max(more.depth);
         }
         self.sums.width = width;
         self.begin = begin;
+        self.height = height;
+        self.depth = depth;
         index
     }
 
@@ -126,6 +165,9 @@ impl BreakWalk {
         if !is_dropped(node) {
             add_item(&mut self.sums, node);
             self.begin = index;
+            self.height = self.height.max(height_of(node));
+            self.depth = self.depth.max(depth_of(node));
+            self.plain = still_plain(self.plain, node);
             return Ok(true);
         }
         if node.shrinks_infinitely() {
@@ -148,6 +190,15 @@ impl BreakWalk {
             from_begin: self.from_begin,
             penalty: penalty_at(nodes, index),
         });
+        let begin = self.begin;
+        self.sizes.push(PlaceSizes {
+            position: index,
+            begin,
+            height: self.height,
+            depth: self.depth,
+        })?;
+        self.height = 0;
+        self.depth = 0;
         Ok(true)
     }
 
@@ -157,11 +208,17 @@ impl BreakWalk {
         requires walked { HasMeasuredFrom nodes.now 0 self }
         ensures marks { IfOk result (λ marked. IsMarked nodes.now marked.marks.items) }
         ensures grows { IfOk result (λ marked. marked.stretch_grows ≡ true → list_any has_negative_stretch nodes.now ≡ false) }
+        ensures plain { IfOk result (λ marked. marked.plain ≡ true → IsPlain nodes.now) }
+        ensures sizes { IfOk result (λ marked. reverse marked.sizes.items ≡ sizes_of nodes.now) }
     {
         let BreakWalk {
             mut marks,
+            mut sizes,
             sums,
             stretch_grows,
+            height,
+            depth,
+            plain,
             ..
         } = self;
         marks.push(MeasuredBreak {
@@ -172,9 +229,17 @@ impl BreakWalk {
             penalty: 0,
         })?;
         marks.reverse();
+        sizes.push(PlaceSizes {
+            position: 0,
+            begin: 0,
+            height,
+            depth,
+        })?;
         Ok(MarkedList {
             marks,
             stretch_grows,
+            sizes,
+            plain,
         })
     }
 }
@@ -185,6 +250,8 @@ pub fn marks_of(alloc: Global, nodes: &[Node]) -> Result<Option<MarkedList>, All
     requires list_bounded { length nodes.now ≤ max_nodes }
     ensures marks { IfOk result (λ found. MatchOption found (IsSome (refusal nodes.now)) (λ marked. IsMarked nodes.now marked.marks.items)) }
     ensures grows { IfOk result (λ found. IfSome found (λ marked. marked.stretch_grows ≡ true → list_any has_negative_stretch nodes.now ≡ false)) }
+    ensures plain { IfOk result (λ found. IfSome found (λ marked. marked.plain ≡ true → IsPlain nodes.now)) }
+    ensures sizes { IfOk result (λ found. IfSome found (λ marked. reverse marked.sizes.items ≡ sizes_of nodes.now)) }
 {
     let mut walk = BreakWalk::at_end(alloc, nodes)?;
     let mut index = walk.pass_run(nodes, nodes.len());

@@ -78,7 +78,7 @@ impl Across {
     }
 
     /// The measures of the items of a list.
-    pub fn of(nodes: &[Node]) -> Across
+    pub(crate) fn of(nodes: &[Node]) -> Across
         requires { length nodes.now ≤ max_nodes }
         ensures width { result.width ≡ total item_width nodes.now }
         ensures height { result.height ≡ greatest_of height_above_baseline nodes.now }

@@ -15,10 +15,12 @@ mod setting;
 mod sizes;
 mod totals;
 
+pub use across::Across;
 pub use below::vbox_below;
 pub use orders::{OrderAmounts, OrderDimens};
 pub use pack::{
-    PackedBox, Shell, Target, TooLarge, hbox_shell, hpack, packed_of, vbox_shell, vpack, vtop,
+    PackedBox, Shell, Target, TooLarge, hbox_shell, hpack, measured_shell, packed_of, vbox_shell,
+    vpack, vtop,
 };
 pub use places::{Cursor, offset};
 pub use sizes::{advance_of, first_height_of, own_size, share_of, shrink_of, stretch_of};

@@ -12,6 +12,7 @@ ghost use Rattle.pack_core.specs.Totals.{first_height};
 ghost use Rattle.pack_core.specs.Boxes.{target_size, hbox, hbox_badness, hbox_numbers, hpack_result, vbox, vbox_badness, vbox_numbers, vpack_result};
 ghost use Rattle.pack_core.specs.Boxes.{vtop_box};
 ghost use Rattle.pack_core.specs.Boxes.{vtop_numbers, vtop_result, some_if, hbox_shell, vbox_shell, packed_of};
+ghost use Rattle.pack_core.specs.ListTotals.{IsAcross};
 ghost use Rattle.pack_core.specs.Places.{place_in};
 ghost use Rattle.pack_core.specs.Private.Steps.{vtop_shell, boxed_list};
 ghost use Rattle.pack_core.specs.Private.Measures.{AreMeasuresOf, HasGoneDown};
@@ -137,17 +138,25 @@ fn height_above(depth: Dimen, down: &Down) -> Option<Dimen>
 }
 
 /// The box that `hpack` would make of these nodes, without the list; `None` exactly when one of their numbers does not fit. Does not allocate.
-#[tactic(auto, using(crate::proofs::Steps::steps))]
 pub fn hbox_shell(target: Target, nodes: &[Node]) -> Option<Shell>
     requires { length nodes.now ≤ max_nodes }
     ensures { result ≡ some_if (list_all fits (hbox_numbers target nodes.now)) (hbox_shell target nodes.now) }
 {
     let across = Across::of(nodes);
+    measured_shell(target, nodes.is_empty(), &across)
+}
+
+/// The box that `hpack` would make of a list with these measures, without the list, if the numbers of the list fit. Who knows the measures of a line
+/// need not walk over its items. Does not allocate.
+#[tactic(auto, using(crate::proofs::Steps::steps))]
+pub fn measured_shell(target: Target, empty: bool, across: &Across) -> Option<Shell>
+    ensures { (nodes : List Node) → IsAcross nodes across.now → empty ≡ (length nodes == 0) →
+        result ≡ some_if (list_all fits (hbox_numbers target nodes)) (hbox_shell target nodes) }
+{
     let natural = Dimen::try_new(across.width)?;
     let width = wanted_size(target, natural)?;
     let height = Dimen::try_new(across.height)?;
     let depth = Dimen::try_new(across.depth)?;
-    let empty = nodes.is_empty();
     let set = set_glue(width, natural, empty, across.stretch, across.shrink)?;
     Some(Shell {
         kind: Kind::Horizontal,

@@ -74,7 +74,7 @@ none_at_break (Some (nodes.Rule sizes)) = refl
 none_at_break (Some (nodes.Special text)) = refl
 none_at_break (Some (nodes.Box shift b)) = refl
 
-none_kept : (list : List Node) (begin : Option ℕ) (end : ℕ) → list_any shrinks_infinitely list ≡ false → list_any shrinks_infinitely (kept_items list begin end) ≡ false
+pub none_kept : (list : List Node) (begin : Option ℕ) (end : ℕ) → list_any shrinks_infinitely list ≡ false → list_any shrinks_infinitely (kept_items list begin end) ≡ false
 none_kept list None end is = none_joined (take end list) (at_break (slice_get list end)) (none_taken list end is) (none_at_break (slice_get list end))
 none_kept list (Some a) end is =
     none_joined (without_first (drop (a + 1) (take end list))) (at_break (slice_get list end))
@@ -88,7 +88,7 @@ zero_is (pos (suc n)) is = absurd (cc)
 zero_is (negsuc n) is = absurd (cc)
 
 -- An order is infinite.
-abbrev IsInfinite : Order → Type 0
+abbrev pub IsInfinite : Order → Type 0
 IsInfinite Normal = ⊥
 IsInfinite Fil = Unit {0}
 IsInfinite Fill = Unit {0}
@@ -126,7 +126,7 @@ item_shrinks_not order (nodes.Rule sizes) far is = refl
 item_shrinks_not order (nodes.Special text) far is = refl
 item_shrinks_not order (nodes.Box shift b) far is = refl
 
-shrinks_not : (order : Order) (items : List Node) → IsInfinite order → list_any shrinks_infinitely items ≡ false → total (shrink_in order) items ≡ pos 0
+pub shrinks_not : (order : Order) (items : List Node) → IsInfinite order → list_any shrinks_infinitely items ≡ false → total (shrink_in order) items ≡ pos 0
 shrinks_not order [] far is = refl
 shrinks_not order (x ∷ items) far is =
     ap (λ s. s +ℤ total (shrink_in order) items) (item_shrinks_not order x far (or_left (shrinks_infinitely x) (list_any shrinks_infinitely items) is))

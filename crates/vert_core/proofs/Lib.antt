@@ -19,6 +19,7 @@ pub mod Unbroken
 pub mod Unset
 pub mod TrialSums
 pub mod BadLines
+pub mod SpanLines
 pub mod Walks
 pub mod Openings
 pub mod Search

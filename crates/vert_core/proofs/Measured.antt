@@ -63,7 +63,7 @@ greatest-end : (size : Node → ℤ) → IsOfOthers size → (front : List Node)
 greatest-end size none [] at = greatest-of-end size none at
 greatest-end size none (x ∷ front) at = ap (int_max (size x)) (greatest-end size none front at)
 
-width-end : (front : List Node) (at : Option Node) → total item_width (front ++ at_break at) ≡ total item_width front
+pub width-end : (front : List Node) (at : Option Node) → total item_width (front ++ at_break at) ≡ total item_width front
 width-end = total-end item_width (record { kern = refl; penalty = λ p. refl })
 
 height-end : (front : List Node) (at : Option Node) → greatest_of height_above_baseline (front ++ at_break at) ≡ greatest_of height_above_baseline front
@@ -72,10 +72,10 @@ height-end = greatest-end height_above_baseline (record { kern = refl; penalty =
 depth-end : (front : List Node) (at : Option Node) → greatest_of depth_below_baseline (front ++ at_break at) ≡ greatest_of depth_below_baseline front
 depth-end = greatest-end depth_below_baseline (record { kern = refl; penalty = λ p. refl })
 
-stretch-end : (front : List Node) (at : Option Node) → stretch_totals (front ++ at_break at) ≡ stretch_totals front
+pub stretch-end : (front : List Node) (at : Option Node) → stretch_totals (front ++ at_break at) ≡ stretch_totals front
 stretch-end front at = fun_ext (λ order. total-end (stretch_in order) (record { kern = refl; penalty = λ p. refl }) front at)
 
-shrink-end : (front : List Node) (at : Option Node) → shrink_totals (front ++ at_break at) ≡ shrink_totals front
+pub shrink-end : (front : List Node) (at : Option Node) → shrink_totals (front ++ at_break at) ≡ shrink_totals front
 shrink-end front at = fun_ext (λ order. total-end (shrink_in order) (record { kern = refl; penalty = λ p. refl }) front at)
 
 glue-end : (front : List Node) (at : Option Node) → glue_totals (front ++ at_break at) ≡ glue_totals front
@@ -143,6 +143,18 @@ fit_after params size previous list begin end front shell is fit shell_is =
     ap (λ (b : BoxNode). b.height) (sym (measured_box size list begin end front shell is shell_is)) ∙ measured_height (items_of items) shell in
     ap (λ b. b && is_ok (interline params previous (boxed_line size items).height)) (measured_fits size list begin end front is ∙ fit)
     ∙ ap (λ h. is_ok (interline params previous h)) height
+
+-- The same by its box alone.
+pub fits_by :
+    (params : Params) (size previous : ℤ) (items : List Node) (shell : Shell) → items_fit size items ≡ true
+    → (packed_of (items_of items) shell).box_node ≡ boxed_line size items → fits_after params size previous items ≡ is_ok (interline params previous shell.height)
+fits_by params size previous items shell fit packed =
+    let height : (boxed_line size items).height ≡ shell.height = ap (λ (b : BoxNode). b.height) (sym packed) ∙ measured_height (items_of items) shell in
+    ap (λ b. b && is_ok (interline params previous (boxed_line size items).height)) fit ∙ ap (λ h. is_ok (interline params previous h)) height
+
+pub unfits_by :
+    (params : Params) (size previous : ℤ) (items : List Node) → items_fit size items ≡ false → fits_after params size previous items ≡ false
+unfits_by params size previous items unfit = ap (λ b. b && is_ok (interline params previous (boxed_line size items).height)) unfit
 
 -- A line keeps the items before its end, and at most one more.
 pub measured_count :

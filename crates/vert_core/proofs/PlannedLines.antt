@@ -99,7 +99,7 @@ line_of_take xs n k below =
     ap (λ ys. ys ++ at_break (slice_get (take n xs) k)) (take-take k n xs (omega (arith, below)))
     ∙ ap (λ x. take k xs ++ at_break x) (get_take xs n k below)
 
-kept_front : (list : List Node) (begin : Option ℕ) (end : ℕ) → front_items list begin end ++ at_break (slice_get list end) ≡ kept_items list begin end
+pub kept_front : (list : List Node) (begin : Option ℕ) (end : ℕ) → front_items list begin end ++ at_break (slice_get list end) ≡ kept_items list begin end
 kept_front list None end = refl
 kept_front list (Some a) end = refl
 

@@ -18,6 +18,7 @@ use Rattle.break_lines.proofs.Places.{place_at, rising_places}
 use Rattle.vert_core.specs.declared.planning.PlannedLine.{PlannedLine}
 use Rattle.vert_core.specs.Lines.{BrokenParagraph, line_places, broken_list, line_begin, brought_by, vertical_items, last_depth, lines_fit}
 use Rattle.vert_core.specs.Paragraphs.{with_breaks}
+use Rattle.vert_core.specs.Private.Measuring.{Follow}
 use Rattle.vert_core.specs.Private.Planned.{first_index, plan_of_line, stacked_nodes, copied_line, moved_lines, AreInOrder}
 use Rattle.vert_core.proofs.Stacks.{count_places}
 use Rattle.vert_core.proofs.Filled.{order_more, order_weak}
@@ -163,6 +164,33 @@ broken_in_order list params previous breaks broken =
     let rising : AreRising p.places (length list) =
     subst (λ (xs : List ℕ). AreRising xs (length list)) (sym places) (rising_reverse list ends is_list.falls (omega (arith, is_list.ends))) in
     ordered p (length breaks.lines.items) rising (sym (count_places breaks.lines.items))
+
+-- Its lines end at places, one after another.
+follow_more :
+    (list : List Node) (xs : List ℕ) (from m to : ℕ) → Follow list xs from m → m < to → to ≤ length (legal_places list)
+    → Follow list (xs ++ position_of list to ∷ []) from to
+follow_more list [] from m to is later last = (to, omega (arith, is, later), last, refl, refl)
+follow_more list (p ∷ xs) from m to is later last = (is.0, is.1, is.2, is.3, follow_more list xs is.0 m to is.4 later last)
+
+follow_reverse :
+    (list : List Node) (ends : List BreakState) → IsFalling (places_of ends) → top (places_of ends) ≤ length (legal_places list)
+    → Follow list (reverse (positions list ends)) 0 (top (places_of ends))
+follow_reverse list [] falls last = refl
+follow_reverse list (s ∷ before) falls last =
+    subst (λ xs. Follow list xs 0 s.place) (sym (reverse-append (position_of list s.place ∷ []) (positions list before)))
+    (follow_more list (reverse (positions list before)) 0 (top (places_of before)) s.place (follow_reverse list before falls.1 (omega (arith, falls.0, last))) falls.0 last)
+
+pub broken_follows :
+    (list : List Node) (params : Params) (breaks : Breaks) → IsBroken (facts_of list) params breaks
+    → Follow list (line_places breaks.lines.items) 0 (length (legal_places list))
+broken_follows list params breaks broken =
+    let ends = ends_of broken.path in
+    let is_list = broken.chosen.is_list in
+    let places : line_places breaks.lines.items ≡ reverse (positions list ends) =
+    ap line_places broken.lines ∙ (same_places list (reverse ends) ∙ positions_reverse list ends) in
+    let end : top (places_of ends) ≡ length (legal_places list) = omega (arith, is_list.ends) in
+    subst (λ (xs : List ℕ). Follow list xs 0 (length (legal_places list))) (sym places)
+    (subst (Follow list (reverse (positions list ends)) 0) end (follow_reverse list ends is_list.falls (omega (arith, end))))
 
 -- Once they have copies of the items, planned lines add the vertical items.
 pub copied_items :

@@ -9,17 +9,18 @@ ghost use Rattle.break_core.specs.Trials.{passes_run};
 ghost use Rattle.vert_core.specs.declared.paragraph.ParagraphFault.TheVariants.{OutOfMemory};
 ghost use Rattle.vert_core.specs.Finished.{finished_list};
 ghost use Rattle.vert_core.specs.Paragraphs.{unset_by, unstacked_by, IsUnsetList};
+ghost use Rattle.vert_core.specs.Private.Measuring.{IsMeasuredBy};
 ghost use Rattle.vert_core.specs.Private.Planned.{AreInOrder, moved_lines, stacked_nodes};
 ghost use Rattle.vert_core.specs.Private.PlannedParagraphs.{IsPlanned};
 ghost use Rattle.vert_core.specs.TrialBounds.{TrialsAreBounded};
 
 use crate::filling::move_items;
 use crate::finishing::refusal_of_finished;
-use crate::measuring::BrokenList;
+use crate::measuring::{BrokenList, MeasuredSums};
 use crate::planning::{PlannedLines, plan_lines_that_fit};
 use crate::stacking::stack_lines;
 use break_core::{BreakFault, Breaks, ListMeter, active_breaks};
-use node_core::{Node, Params, any_has_content};
+use node_core::{Node, Params};
 use scaled_core::{Dimen, SizeFault};
 use std::alloc::{AllocError, Global};
 use thiserror::Error;
@@ -85,23 +86,25 @@ pub(crate) fn unfinished_fault(nodes: &[Node], params: &Params) -> ParagraphFaul
     }
 }
 
-/// The breaks of a finished list of at most `MAX_NODES` nodes, which are those of `breaks` in break_core, and the number of lines that were tried,
-/// which is small.
-fn counted_breaks(
+/// The breaks of a finished list of at most `MAX_NODES` nodes, which are those of `breaks` in break_core, the number of lines that were tried, which
+/// is small, and what the list was measured by.
+fn counted_breaks<'a>(
     alloc: Global,
-    nodes: &[Node],
+    nodes: &'a [Node],
     params: &Params,
-) -> Result<(Breaks, u128), BreakFault>
+) -> Result<(Breaks, u128, MeasuredSums<'a>), BreakFault>
     requires list_bounded { length nodes.now ≤ max_nodes }
     ensures broken { IfOk result (λ counted. IsBroken (facts_of nodes.now) params.now counted.0) }
     ensures tried { IfOk result (λ counted. 0 < counted.1) }
     ensures trials { IfOk result (λ counted. TrialsAreBounded (facts_of nodes.now) params.now (passes_run params.now counted.0.pass) counted.1) }
+    ensures measured { IfOk result (λ counted. IsMeasuredBy nodes.now counted.2) }
     ensures fits { OnOk result (refusal nodes.now ≡ None) }
     ensures fault { IfErr result (λ fault. fault ≡ unwrap_or (refusal nodes.now) BreakFault.OutOfMemory) }
 {
-    let mut meter = ListMeter::new(alloc, nodes)?;
+    let (mut meter, sizes) = ListMeter::with_sizes(alloc, nodes)?;
     let breaks = active_breaks(alloc, &mut meter, params)?;
-    Ok((breaks, meter.all_trials()))
+    let trials = meter.all_trials();
+    Ok((breaks, trials, MeasuredSums { meter, sizes }))
 }
 
 /// A finished list that is broken, with its lines as they will be stacked.
@@ -126,15 +129,15 @@ pub(crate) fn plan_finished(
     ensures plain { IfOk result (λ planned. planned.plain ≡ true → IsPlain nodes.now) }
     ensures refused { IfErr result (IsUnsetList nodes.now params.now previous_depth) }
 {
-    let (breaks, trials) = counted_breaks(alloc, nodes, params)?;
+    let (breaks, trials, measured) = counted_breaks(alloc, nodes, params)?;
     let broken = BrokenList {
         nodes,
         ends: &breaks.lines,
         params,
+        measured: Some(&measured),
     };
     let plan = plan_lines_that_fit(alloc, &broken, previous_depth)?;
-    // Few lists have a box or a special. One look at each item here saves the look at each item of each line.
-    let plain = !any_has_content(nodes);
+    let plain = measured.sizes.is_plain();
     Ok(PlannedParagraph {
         plan,
         breaks,

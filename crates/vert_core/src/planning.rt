@@ -6,7 +6,7 @@ ghost use Rattle.node_core.specs.Nodes.{max_nodes};
 ghost use Rattle.pack_core.specs.Boxes.{packed_of};
 ghost use Rattle.break_lines.specs.Legal.{up_to};
 ghost use Rattle.vert_core.specs.Lines.{line_places, last_depth, lines_fit};
-ghost use Rattle.vert_core.specs.Private.Measuring.{paragraph_of};
+ghost use Rattle.vert_core.specs.Private.Measuring.{paragraph_of, IsKnown};
 ghost use Rattle.vert_core.specs.Private.Planned.{penalty_between, plan_of_line, stacked_nodes};
 
 use crate::measuring::{BrokenList, MeasuredLine, line_end, lines_fit, measure_line};
@@ -89,7 +89,8 @@ pub(crate) fn plan_lines(
     broken: &BrokenList,
     previous_depth: Dimen,
 ) -> Result<PlannedLines, SizeFault>
-    requires { length broken.now.nodes.now ≤ max_nodes }
+    requires list_bounded { length broken.now.nodes.now ≤ max_nodes }
+    requires known { IsKnown broken.now 0 0 }
     ensures lines { IfOk result (λ plan. plan.lines.items ≡ map (plan_of_line (paragraph_of broken.now previous_depth))
         (up_to (length broken.now.ends.now))) }
     ensures count { IfOk result (λ plan. plan.count ≡ length (flat_map stacked_nodes plan.lines.items)) }
@@ -100,13 +101,15 @@ pub(crate) fn plan_lines(
     let mut lines = Vec::with_capacity(alloc, broken.ends.len())?;
     let mut count = 0;
     let mut depth = previous_depth;
+    let mut from = 0;
     for line in 0..broken.ends.len() {
-        let Some(measured) = measure_line(broken, depth, line) else {
+        let Some(measured) = measure_line(broken, depth, line, from) else {
             return Err(SizeFault::DimensionTooLarge);
         };
         let planned = planned_line(alloc, broken, line, &measured)?;
         count += items_of_line(&planned);
         depth = measured.shell.depth;
+        from = measured.to;
         lines.push_reserved(planned);
     }
     Ok(PlannedLines {
@@ -118,7 +121,8 @@ pub(crate) fn plan_lines(
 
 /// Why the lines of a broken list are not stacked.
 pub(crate) fn fault_of(broken: &BrokenList, previous_depth: Dimen) -> SizeFault
-    requires { length broken.now.nodes.now ≤ max_nodes }
+    requires list_bounded { length broken.now.nodes.now ≤ max_nodes }
+    requires known { IsKnown broken.now 0 0 }
     ensures { result ≡ (if lines_fit (paragraph_of broken.now previous_depth) then SizeFault.OutOfMemory else SizeFault.DimensionTooLarge) }
 {
     if lines_fit(broken, previous_depth) {
@@ -133,7 +137,8 @@ pub(crate) fn plan_lines_that_fit(
     broken: &BrokenList,
     previous_depth: Dimen,
 ) -> Result<PlannedLines, SizeFault>
-    requires { length broken.now.nodes.now ≤ max_nodes }
+    requires list_bounded { length broken.now.nodes.now ≤ max_nodes }
+    requires known { IsKnown broken.now 0 0 }
     ensures lines { IfOk result (λ plan. plan.lines.items ≡ map (plan_of_line (paragraph_of broken.now previous_depth))
         (up_to (length broken.now.ends.now))) }
     ensures count { IfOk result (λ plan. plan.count ≡ length (flat_map stacked_nodes plan.lines.items)) }

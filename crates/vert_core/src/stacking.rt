@@ -5,7 +5,7 @@ ghost use Rattle.std.specs.Prelude.{IfOk, IfErr};
 ghost use Rattle.std.specs.List.{All, cons_option};
 ghost use Rattle.node_core.specs.Nodes.{max_nodes};
 ghost use Rattle.vert_core.specs.Lines.{broken_list, penalty_nodes, vertical_items, last_depth, lines_fit};
-ghost use Rattle.vert_core.specs.Private.Measuring.{paragraph_of};
+ghost use Rattle.vert_core.specs.Private.Measuring.{paragraph_of, IsKnown};
 ghost use Rattle.vert_core.specs.Private.Planned.{HasPlainItems, closed_box, stacked_nodes};
 
 use crate::filling::copy_items;
@@ -95,7 +95,8 @@ fn copied_lines(
     broken: &BrokenList,
     previous_depth: Dimen,
 ) -> Result<VerticalItems, SizeFault>
-    requires { length broken.now.nodes.now ≤ max_nodes }
+    requires list_bounded { length broken.now.nodes.now ≤ max_nodes }
+    requires known { IsKnown broken.now 0 0 }
     ensures ok { IfOk result (λ items. items.nodes.items ≡ vertical_items (paragraph_of broken.now previous_depth)) }
     ensures depth { IfOk result (λ items. items.depth ≡ last_depth (paragraph_of broken.now previous_depth)) }
     ensures fits { OnOk result (lines_fit (paragraph_of broken.now previous_depth) ≡ true) }
@@ -115,11 +116,11 @@ fn copied_lines(
 ///
 /// The fault is `DimensionTooLarge` exactly if a number of the box of a line does not fit, or the glue before it does not; refused memory never hides
 /// it. Otherwise it is `OutOfMemory`. Without lines nothing is allocated.
-pub fn lines(
+pub fn lines<'a>(
     alloc: Global,
-    nodes: &[Node],
-    breaks: &Breaks,
-    params: &Params,
+    nodes: &'a [Node],
+    breaks: &'a Breaks,
+    params: &'a Params,
     previous_depth: Dimen,
 ) -> Result<VerticalItems, SizeFault>
     requires list_bounded { length nodes.now ≤ max_nodes }
@@ -135,6 +136,7 @@ pub fn lines(
         nodes,
         ends: &breaks.lines,
         params,
+        measured: None,
     };
     if breaks.lines.is_empty() {
         return Ok(VerticalItems {

@@ -7,15 +7,17 @@ use Rattle.node_core.specs.declared.tree.Node.TheVariants as nodes
 use Rattle.node_core.specs.Classes.{shrinks_infinitely}
 use Rattle.node_core.specs.declared.tree.Order.{Order}
 use Rattle.node_core.specs.declared.tree.Order.TheVariants.{Normal, Fil, Fill, Filll}
-use Rattle.node_core.specs.Nodes.{max_nodes}
-use Rattle.pack_core.specs.Items.{item_width, stretch_in, shrink_in, is_order}
+use Rattle.node_core.specs.Nodes.{max_nodes, IsPlain}
+use Rattle.pack_core.specs.Items.{item_width, height_above_baseline, depth_below_baseline, stretch_in, shrink_in, is_order}
 use Rattle.break_lines.specs.Problems.{max_places}
 use Rattle.break_lines.specs.declared.sums.Sums.{Sums}
+use Rattle.break_lines.specs.declared.item_sums.RunSizes.{RunSizes}
 use Rattle.break_lines.specs.declared.mark.MeasuredBreak.{MeasuredBreak}
 use Rattle.break_lines.specs.declared.walk.BreakWalk.{BreakWalk}
 use Rattle.break_lines.specs.Legal.{up_to, is_legal, legal_places, penalty_of}
 use Rattle.break_lines.specs.LineItems.{sums_of, next_kept, minus}
 use Rattle.break_lines.specs.Facts.{refusal}
+use Rattle.break_lines.specs.Spans.{greatest_between, next_place, sizes_at}
 use Rattle.break_lines.specs.Private.SmallMarks.{IsPrefix, AreSmallMarks}
 use Rattle.break_lines.specs.Steady.{IsNoNarrower}
 use Rattle.break_lines.specs.Even.{Covers}
@@ -36,16 +38,16 @@ amounts_of node =
       shrink = shrink_in Normal node;
     }
 
--- The width of a glyph or a font kern, which is all that it adds to the sums (own: the walk passes them in a loop of their own).
-unfoldable pub width_in_run : Node → Option ℤ
-width_in_run (nodes.Glyph glyph) = Some glyph.width
-width_in_run (nodes.FontKern width) = Some width
-width_in_run (nodes.Kern width) = None
-width_in_run (nodes.Glue glue) = None
-width_in_run (nodes.Penalty penalty) = None
-width_in_run (nodes.Rule rule) = None
-width_in_run (nodes.Special text) = None
-width_in_run (nodes.Box shift b) = None
+-- The sizes of a glyph or a font kern; its width is all that it adds to the sums (own: the walk passes them in a loop of their own).
+unfoldable pub sizes_in_run : Node → Option RunSizes
+sizes_in_run (nodes.Glyph glyph) = Some (record { width = glyph.width; height = glyph.height; depth = glyph.depth })
+sizes_in_run (nodes.FontKern width) = Some (record { width = width; height = pos 0; depth = pos 0 })
+sizes_in_run (nodes.Kern width) = None
+sizes_in_run (nodes.Glue glue) = None
+sizes_in_run (nodes.Penalty penalty) = None
+sizes_in_run (nodes.Rule rule) = None
+sizes_in_run (nodes.Special text) = None
+sizes_in_run (nodes.Box shift b) = None
 
 -- What stretch in an order adds to the sums (own).
 abbrev pub stretch_alone : Order → (amount : ℤ) → Sums
@@ -148,3 +150,8 @@ pub record HasMeasuredFrom (list : List Node) (index : ℕ) (walk : BreakWalk) :
   pub small_begin : IsPrefix max_nodes walk.from_begin
   pub finite : list_any shrinks_infinitely (drop index list) ≡ false
   pub grows : walk.stretch_grows ≡ true → list_any has_negative_stretch (drop index list) ≡ false
+  pub plain : walk.plain ≡ true → IsPlain (drop index list)
+  -- The same of the sizes of these places.
+  pub sizes : map (sizes_at list) (filter (is_legal list) (up_to index)) ++ reverse walk.sizes.items ≡ map (sizes_at list) (legal_places list)
+  pub height : walk.height ≡ greatest_between height_above_baseline list index (next_place list index)
+  pub depth : walk.depth ≡ greatest_between depth_below_baseline list index (next_place list index)

@@ -6,19 +6,11 @@ use Rattle.node_core.specs.Nodes.{IsPlain, items_of, nodes_of}
 use Rattle.node_core.specs.declared.params.Params.{Params}
 use Rattle.node_core.specs.declared.tree.BoxNode.{BoxNode}
 use Rattle.node_core.specs.declared.tree.Node.{Node}
-use Rattle.break_lines.specs.LineItems.{at_break, without_first}
+use Rattle.break_lines.specs.LineItems.{at_break}
+pub use Rattle.break_lines.specs.Spans.{front_items, first_index}
 use Rattle.vert_core.specs.declared.planning.PlannedLine.{PlannedLine}
 use Rattle.vert_core.specs.Interline.{interline, glue_of, appended_nodes}
 use Rattle.vert_core.specs.Lines.{BrokenParagraph, line_begin, line_box, depth_before, penalty_after, penalty_nodes}
-
--- The items that a line keeps before the item at its end.
-abbrev pub front_items : List Node → (begin : Option ℕ) → (end : ℕ) → List Node
-front_items list None end = take end list
-front_items list (Some a) end = without_first (drop (a + 1) (take end list))
-
--- The index of the first of them; where there is none, it is that of the item at the end.
-abbrev pub first_index : List Node → (begin : Option ℕ) → (end : ℕ) → ℕ
-first_index list begin end = length (take end list) - length (front_items list begin end)
 
 -- The penalty between a line and the next one, of `count` lines, and 0 after the last line.
 abbrev pub penalty_between : Params → (count line : ℕ) → ℤ

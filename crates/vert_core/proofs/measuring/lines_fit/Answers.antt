@@ -15,6 +15,7 @@ loop-line-preserved c =
     let line : ℕ = c.loop-line.line in
     let shell = c.in-Some.measured.shell in
     record {
+      known = c.in-Some.ensures.next;
       depth = depth_after_line p line shell.depth (sym (measured_depth (items_of (line_items p line)) shell) ∙ ap (λ (b : BoxNode). b.depth) c.in-Some.ensures.packed);
       fit = all_more (line_fits p) line c.loop-line.invariant.fit
           (fits_one p line c.loop-line.depth true c.loop-line.invariant.depth (sym c.measure_line.ensures.fits ∙ ap is_some c.in-Some.is));

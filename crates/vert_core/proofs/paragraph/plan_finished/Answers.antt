@@ -1,14 +1,27 @@
-use Rattle.std.proofs.Common.{◌∙◌, List, ap, sym}
+use Rattle.std.proofs.Common.{◌∙◌, List, length, refl, ap, sym, subst}
 use Rattle.break_core.specs.declared.broken.LineEnd.{LineEnd}
-use Rattle.vert_core.specs.Lines.{broken_list, lines_fit}
+use Rattle.break_lines.specs.Legal.{legal_places}
+use Rattle.vert_core.specs.Lines.{broken_list, line_places, lines_fit}
+use Rattle.vert_core.specs.Private.Measuring.{Follow}
 use Rattle.vert_core.specs.Paragraphs.{unstacked_by, IsUnsetList}
-use Rattle.vert_core.proofs.PlainItems.{known_plain}
 use Rattle.vert_core.proofs.Rests.{handed_on}
 use Rattle.vert_core.proofs.Unset.{unplanned_list}
+use Rattle.vert_core.proofs.PlannedOrder.{broken_follows}
 use Rattle.vert_core.proofs.paragraph.plan_finished.Goals as goal
 
 pub returns-clause-plain : goal.returns-clause-plain
-returns-clause-plain c = λ on. known_plain c.any_has_content-plain.result c.args.nodes.now c.any_has_content-plain.ensures on
+returns-clause-plain c = λ on. c.in_ok-breaks.ensures.measured.sizes.plain (sym c.is_plain-plain.ensures ∙ on)
+
+pub plan_lines_that_fit-requires-clause-known : goal.plan_lines_that_fit-requires-clause-known
+plan_lines_that_fit-requires-clause-known c =
+    let list = c.args.nodes.now in
+    let follows = broken_follows list c.args.params.now c.in_ok-breaks.breaks c.in_ok-breaks.ensures.broken in (
+      c.in_ok-breaks.ensures.measured,
+      record {
+        begin = refl;
+        follow = subst (λ (ends : List LineEnd). Follow list (line_places ends) 0 (length (legal_places list))) (sym c.deref.ensures.value) follows;
+      },
+    )
 
 pub returns-in_err-plan-clause-refused : goal.returns-in_err-plan-clause-refused
 returns-in_err-plan-clause-refused c =

@@ -2,6 +2,7 @@ use Rattle.std.proofs.Common.{◌≡◌, ◌≤◌, ◌*◌, length, map, true, 
 use Rattle.std.specs.List.{list_all}
 use Rattle.break_lines.specs.Legal.{up_to}
 use Rattle.vert_core.specs.Lines.{broken_list, depth_before, line_fits}
+use Rattle.vert_core.specs.Private.Measuring.{IsKnown}
 use Rattle.vert_core.specs.Private.Planned.{plan_of_line, stacked_nodes}
 use Rattle.vert_core.proofs.planning.plan_lines.Given as goal
 
@@ -12,6 +13,7 @@ invariant-loop-line l = record {
   few : l.count ≤ 3 * l.line;
   space : vec_len l.lines ≡ l.line;
   capacity : length l.broken.ends.now ≤ vec_capacity l.lines;
+  known : IsKnown l.broken l.line l.from;
   depth : l.depth ≡ depth_before (broken_list l.broken.nodes.now l.broken.ends.now l.broken.params.now l.fn.previous_depth) l.line;
   fit : list_all (line_fits (broken_list l.broken.nodes.now l.broken.ends.now l.broken.params.now l.fn.previous_depth)) (up_to l.line) ≡ true;
 }

@@ -17,8 +17,8 @@ is_even-even-requires c =
     let marked : IsMarked c.args.nodes.now c.in-Some.marked.marks.items = rw c.in-Some.is at c.in_ok-marked.ensures.marks in
     record { marks_bounded = subst AreSmallMarks (sym c.deref-2.ensures.value) marked.small }
 
-pub invariant_of-result : goal.invariant_of-result
-invariant_of-result c =
+pub invariant_of-meter : goal.invariant_of-meter
+invariant_of-meter c =
     let list = c.args.nodes.now in
     let marks = c.in-Some.marked.marks.items in
     let marked : IsMarked list marks = rw c.in-Some.is at c.in_ok-marked.ensures.marks in
@@ -33,4 +33,11 @@ invariant_of-result c =
       falls = λ steady. c.is_steady-steady.ensures.no list (c.deref.ensures.value ∙ marked.marks) steady;
       evens = λ even. c.is_even-even.ensures list (c.deref-2.ensures.value ∙ marked.marks) (rw c.in-Some.is at c.in_ok-marked.ensures.grows) even;
       counted = ap length c.in_ok-trials.ensures ∙ length-replicate c.len.result 0 ∙ long;
+    }
+
+pub returns-clause-sizes : goal.returns-clause-sizes
+returns-clause-sizes c =
+    record {
+      places = rw c.in-Some.is at c.in_ok-marked.ensures.sizes;
+      plain = rw c.in-Some.is at c.in_ok-marked.ensures.plain;
     }

@@ -1,7 +1,10 @@
-use Rattle.std.proofs.Common.{◌≡◌, ◌∙◌, ◌-◌, [], ◌∷◌, ◌++◌, length, reverse, ap, sym, subst, arith}
+use Rattle.std.proofs.Common.{◌≡◌, ◌∙◌, ◌-◌, [], ◌∷◌, ◌++◌, length, reverse, to_z, of_z, w32, SFits, ap, sym, subst, arith, rules}
+use Rattle.std.proofs.lemmas.Int.{to_z-of_z}
 use Rattle.std.specs.Prelude.{pos}
 use Rattle.std.proofs.lemmas.List.{reverse-append}
 use Rattle.break_lines.specs.declared.mark.MeasuredBreak.{MeasuredBreak}
+use Rattle.break_lines.specs.declared.line_sizes.PlaceSizes.{PlaceSizes}
+use Rattle.break_lines.specs.Spans.{start_sizes}
 use Rattle.break_lines.specs.Private.Marks.{start_mark}
 use Rattle.break_lines.specs.Private.SmallMarks.{AreSmallMarks}
 use Rattle.break_lines.proofs.Smalls.{wide}
@@ -25,3 +28,20 @@ returns-clause-marks c =
 
 pub returns-clause-grows : goal.returns-clause-grows
 returns-clause-grows c = λ on. c.requires.walked.grows on
+
+pub returns-clause-plain : goal.returns-clause-plain
+returns-clause-plain c = λ on. c.requires.walked.plain on
+
+pub returns-clause-sizes : goal.returns-clause-sizes
+returns-clause-sizes c =
+    let list = c.args.nodes.now in
+    let w = c.args.self in
+    let old = c.requires.walked in
+    let fits_high : SFits w32 w.height = search rules in
+    let fits_deep : SFits w32 w.depth = search rules in
+    let high = to_z-of_z w32 w.height fits_high ∙ old.height in
+    let deep = to_z-of_z w32 w.depth fits_deep ∙ old.depth in
+    let sizes : PlaceSizes = record { position = 0; begin = 0; height = to_z w32 (of_z w32 w.height); depth = to_z w32 (of_z w32 w.depth) } in
+    let here : sizes ≡ start_sizes list = cc (high, deep) in
+    ap reverse c.in_ok-push-2.ensures.items ∙ reverse-append w.sizes.items (sizes ∷ []) ∙ ap (λ s. s ∷ reverse w.sizes.items) here
+    ∙ ap (λ xs. start_sizes list ∷ xs) old.sizes
