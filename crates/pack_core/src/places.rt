@@ -2,6 +2,7 @@
 
 ghost use Rattle.std.specs.Prelude.{◌≡◌, ◌≤◌, ◌<◌, ◌+◌, ◌+ℤ◌, ◌^◌, ◌++◌, ◌∷◌, [], List, pos, length};
 ghost use Rattle.scaled_core.specs.Dimensions.{Within};
+ghost use Rattle.scaled_core.specs.Fractions.{round_times};
 ghost use Rattle.node_core.specs.Nodes.{max_nodes, nodes_of};
 ghost use Rattle.node_core.specs.declared.tree.Kind.{Kind};
 ghost use Rattle.node_core.specs.declared.tree.Node.{Node};
@@ -12,6 +13,7 @@ ghost use Rattle.pack_core.specs.Cursors.{sums_after, one_more, moved_on, place_
 
 use crate::sizes::{advance_of, share_of};
 use node_core::{BoxNode, Kind, Node, Setting};
+use scaled_core::Ratio;
 use std::marker::Model;
 
 /// The state of a walk over the items of a box: the sums of the advances of the items passed and of their shares in the setting of the glue.
@@ -92,6 +94,7 @@ impl Cursor {
     /// The current place in a list of this setting, in scaled points from the beginning of the list. Each place is rounded once, from the exact sums,
     /// so a box is filled exactly.
     #[tactic(auto, unfolding(crate::specs::Cursors::sums_after, crate::specs::Places::place))]
+    #[inline(always)]
     pub fn place(&self, setting: &Setting) -> i128
         ensures value { result ≡ place_at setting.now self.now }
         ensures value_bounded { Within (2 ^ 126 + 2 ^ 63) result }
@@ -102,15 +105,28 @@ impl Cursor {
     }
 }
 
+/// A ratio times a sum of shares, rounded. Nearly all products fit 64 bits, and that way is short enough to stand in its caller.
+#[inline(always)]
+fn times_shares(ratio: &Ratio, shares: i64) -> i128
+    ensures value { result ≡ round_times ratio.now shares }
+    ensures value_bounded { Within (2 ^ 126) result }
+{
+    match ratio.round_small(shares) {
+        Some(rounded) => i128::from(rounded),
+        None => ratio.round_times(shares),
+    }
+}
+
 /// How much a setting adds to items with this sum of shares.
+#[inline(always)]
 fn set_by(setting: &Setting, shares: i64) -> i128
     ensures value { result ≡ set_by setting.now shares }
     ensures value_bounded { Within (2 ^ 126) result }
 {
     match setting {
         Setting::Natural => 0,
-        Setting::Stretch { ratio, .. } => ratio.round_times(shares),
-        Setting::Shrink { ratio, .. } => ratio.round_times(shares),
+        Setting::Stretch { ratio, .. } => times_shares(ratio, shares),
+        Setting::Shrink { ratio, .. } => times_shares(ratio, shares),
     }
 }
 

@@ -1,7 +1,7 @@
 -- The items of a list in order: the state after the first ones.
 use Rattle.std.proofs.Common.{◌≡◌, ◌≢◌, ℕ, zero, suc, ◌+◌, ◌<◌, List, [], ◌∷◌, ◌++◌, length, take, drop, get_or, refl, ap, sym, ◌∙◌, add-one, drop-cons, ◌≤◌, arith}
 use Rattle.std.proofs.lemmas.List.{take_more, length-take-le}
-use Rattle.std.specs.Prelude.{ℤ, pos, ◌+ℤ◌, ◌-ℤ◌, Bool, true, false, not, ◌&&◌, ◌==◌, Some, slice_get}
+use Rattle.std.specs.Prelude.{ℤ, pos, ◌+ℤ◌, ◌-ℤ◌, Bool, true, false, not, ◌&&◌, ◌==◌, Some, None, slice_get}
 use Rattle.std.specs.List.{list_all}
 use Rattle.std.proofs.lemmas.List.Folds.{list_all-append}
 use Rattle.std.proofs.lemmas.Bool.{eqb-true}
@@ -25,8 +25,8 @@ use Rattle.page_core.specs.Marks.{ShippedPage, page_v, is_huge, right_at, down_a
 use Rattle.scaled_core.specs.Mark as body
 use Rattle.page_core.specs.DrawnPages.{DrawnPage, marked, group, grouped_page, drawn_after}
 use Rattle.page_core.specs.Placing.{Reaches, marked_of, reference_h, reference_v}
-use Rattle.page_core.specs.Private.Placing.{point_in, numbers_between, marked_at}
-use Rattle.page_core.proofs.Walked.{reach_by, glyph-fits, glyph-sums, marks-glyph}
+use Rattle.page_core.specs.Private.Placing.{is_blank, point_in, numbers_between, marked_at, drawn_left, numbers_left}
+use Rattle.page_core.proofs.Walked.{reach_by, glyph-fits, glyph-sums, marks-glyph, blank-fits, blank-marks, between-none}
 
 -- The items from place i on are the item there and those after it.
 pub left_at : (xs : List Node) (i : ℕ) (x : Node) → i < length xs → x ≡ get_or xs i x → drop i xs ≡ x ∷ drop (i + 1) xs
@@ -77,13 +77,6 @@ numbers-one b h v before rest (nodes.Penalty p) = refl
 numbers-one b h v before rest (nodes.Special text) = refl
 numbers-one b h v before rest (nodes.Rule sizes) = refl
 numbers-one b h v before rest (nodes.Box shift inner) = refl
-
--- The drawn items that are left, and their numbers.
-abbrev pub drawn_left : BoxNode → (h v : ℤ) → List Node → ℕ → DrawnPage
-drawn_left b h v xs i = drawn_after b h v (take i xs) (items_of (drop i xs))
-
-abbrev pub numbers_left : BoxNode → (h v : ℤ) → List Node → ℕ → List ℤ
-numbers_left b h v xs i = numbers_after b h v (take i xs) (items_of (drop i xs))
 
 pub drawn_more :
     (b : BoxNode) (h v : ℤ) (xs : List Node) (i : ℕ) (x : Node) → i < length xs → x ≡ get_or xs i x
@@ -218,6 +211,61 @@ glyph_drawn b h v xs i g from at across within is so here =
     let seen = marked_at b h v (place_at b.setting from) x later in
     drawn_more b h v xs i x within is
     ∙ (sym (item_marks b h v (take i xs) x from later seen so refl) ∙ marks-glyph b h v (place_at b.setting from) at g later across here)
+
+-- An item without a mark has no items, and so it draws nothing.
+blank_numbers : (b : BoxNode) (h v : ℤ) (x : Node) → is_blank x ≡ true → numbers_inside b h v x ≡ []
+blank_numbers b h v (nodes.FontKern w) is = refl
+blank_numbers b h v (nodes.Kern w) is = refl
+blank_numbers b h v (nodes.Glue g) is = refl
+blank_numbers b h v (nodes.Penalty p) is = refl
+blank_numbers b h v (nodes.Glyph g) is = absurd (cc)
+blank_numbers b h v (nodes.Special text) is = absurd (cc)
+blank_numbers b h v (nodes.Rule r) is = absurd (cc)
+blank_numbers b h v (nodes.Box shift inner) is = absurd (cc)
+
+blank_inside : (b : BoxNode) (h v : ℤ) (x : Node) (rest : DrawnPage) → is_blank x ≡ true → inside b h v x rest ≡ rest
+blank_inside b h v (nodes.FontKern w) rest is = refl
+blank_inside b h v (nodes.Kern w) rest is = refl
+blank_inside b h v (nodes.Glue g) rest is = refl
+blank_inside b h v (nodes.Penalty p) rest is = refl
+blank_inside b h v (nodes.Glyph g) rest is = absurd (cc)
+blank_inside b h v (nodes.Special text) rest is = absurd (cc)
+blank_inside b h v (nodes.Rule r) rest is = absurd (cc)
+blank_inside b h v (nodes.Box shift inner) rest is = absurd (cc)
+
+-- The numbers of the items from such an item on fit exactly where those of the items after it do, if the points before it and after it fit.
+pub blank_passed :
+    (b : BoxNode) (h v : ℤ) (xs : List Node) (i : ℕ) (x : Node) (from : WalkSums) (at after : Point ℤ)
+    → is_blank x ≡ true → i < length xs → x ≡ get_or xs i x → from ≡ sums_after b.kind b.setting (take i xs)
+    → point_in b h v (place_at b.setting from) ≡ Some at
+    → point_in b h v (place_at b.setting (one_more b.kind b.setting from x)) ≡ Some after
+    → list_all fits (numbers_left b h v xs (i + 1)) ≡ list_all fits (numbers_left b h v xs i)
+blank_passed b h v xs i x from at after blank within is so here there =
+    let fit = blank-fits b h v (place_at b.setting from) (place_at b.setting (one_more b.kind b.setting from x)) at after x blank here there in
+    let none : list_all fits (numbers_inside b (item_h b h (take i xs)) (item_v b v (take i xs)) x) ≡ true =
+    ap (list_all fits) (blank_numbers b (item_h b h (take i xs)) (item_v b v (take i xs)) x blank) in
+    rest_of_and _ _ _ (sym none) (rest_of_and _ _ _ (item_fits b h v (take i xs) x from true so (sym fit)) (sym (fits_more b h v xs i x within is)))
+
+-- What is drawn of such an item and of the items after it.
+pub blank_drawn :
+    (b : BoxNode) (h v : ℤ) (xs : List Node) (i : ℕ) (x : Node) → is_blank x ≡ true → i < length xs → x ≡ get_or xs i x
+    → drawn_left b h v xs i ≡ drawn_left b h v xs (i + 1)
+blank_drawn b h v xs i x blank within is =
+    let x_h = item_h b h (take i xs) in
+    let x_v = item_v b v (take i xs) in
+    let later = drawn_left b h v xs (i + 1) in
+    drawn_more b h v xs i x within is
+    ∙ (blank-marks b x_h x_v x (inside b x_h x_v x later) blank ∙ blank_inside b x_h x_v x later blank)
+
+-- Where the next point of an item does not fit, the numbers of the items from it on do not.
+pub item_over :
+    (b : BoxNode) (h v : ℤ) (xs : List Node) (i : ℕ) (x : Node) (from : WalkSums)
+    → i < length xs → x ≡ get_or xs i x → from ≡ sums_after b.kind b.setting (take i xs)
+    → point_in b h v (place_at b.setting (one_more b.kind b.setting from x)) ≡ None
+    → list_all fits (numbers_left b h v xs i) ≡ false
+item_over b h v xs i x from within is so over =
+    let no = between-none b h v (place_at b.setting from) (place_at b.setting (one_more b.kind b.setting from x)) x over in
+    fits_more b h v xs i x within is ∙ first_false _ _ (item_fits b h v (take i xs) x from false so (sym no))
 
 -- The sums of a walk, from its parts.
 pub sums-are :

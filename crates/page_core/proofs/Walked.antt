@@ -33,6 +33,15 @@ point-is h v p is = by_test (fits h && fits v) is
     by_test true is = (cc, cc)
     by_test false is = absurd (cc)
 
+pub level-at : (h v : ℤ) (p : Point ℤ) → fitting_point h v ≡ Some p → fitting_point h v ≡ Some (level_with p.v p.h)
+level-at h v p is = by_test (fits h && fits v) (point-is h v p is) is
+  where
+    by_test :
+        (b : Bool) → (p.h ≡ h) × (p.v ≡ v) → (if b then Some (record { h = h; v = v }) else None) ≡ Some p
+        → (if b then Some (level_with v h) else None) ≡ Some (level_with p.v p.h)
+    by_test true (right, below) there = ap₂ (λ (a b : ℤ). Some (level_with b a)) (sym right) (sym below)
+    by_test false both there = absurd (cc)
+
 -- Where there is no point, one of the numbers does not fit.
 no_point : (h v : ℤ) → fitting_point h v ≡ None → (fits h && fits v) ≡ false
 no_point h v is = by_test (record { h = h; v = v }) (fits h && fits v) is
@@ -296,6 +305,9 @@ told_on P found at is holds = subst (λ (f : Option (Point ℤ)). OnSome f P) is
 pub told_index : (P : ℕ → Type 0) (found : Option ℕ) (n : ℕ) → found ≡ Some n → IfSome found P → P n
 told_index P found n is holds = subst (λ (f : Option ℕ). IfSome f P) is holds
 
+pub told_so : (P : Type 0) (found : Option ℕ) (n : ℕ) → found ≡ Some n → OnSome found P → P
+told_so P found n is holds = subst (λ (f : Option ℕ). OnSome f P) is holds
+
 -- The item after a glyph of a horizontal list is where h is after it.
 pub ends :
     (b : BoxNode) (h v : ℤ) (from : WalkSums) (at after : Point ℤ) (g : Glyph) → b.kind ≡ Horizontal → point_in b h v (place_at b.setting from) ≡ Some at
@@ -311,16 +323,35 @@ height_fits h v p is = ap fits (point-is h v p is).1 ∙ by_test (fits h) (fits 
     by_test true b both = both
     by_test false b both = absurd (cc)
 
--- The point after a glyph of a horizontal list.
+-- The point after an item of a horizontal list that is independent of the setting.
+pub rigid-next :
+    (b : BoxNode) (h v : ℤ) (from : WalkSums) (at : Point ℤ) (x : Node) → b.kind ≡ Horizontal → is_rigid x ≡ true
+    → point_in b h v (place_at b.setting from) ≡ Some at
+    → point_in b h v (place_at b.setting (one_more b.kind b.setting from x))
+    ≡ option_map (level_with at.v) (dimension_of (at.h +ℤ advance Horizontal x))
+rigid-next b h v from at x across rigid here =
+    sym (rigid_after b h v from at x rigid here)
+    ∙ (ap (λ (kind : Kind). fitting_point (right_at kind at.h (advance kind x)) (down_at kind at.v (advance kind x))) across
+    ∙ level-point (at.h +ℤ advance Horizontal x) at.v
+    (height_fits (right_at b.kind h (place_at b.setting from)) (down_at b.kind v (place_at b.setting from)) at here))
+
 pub glyph-next :
     (b : BoxNode) (h v : ℤ) (from : WalkSums) (at : Point ℤ) (g : Glyph) → b.kind ≡ Horizontal → point_in b h v (place_at b.setting from) ≡ Some at
     → point_in b h v (place_at b.setting (one_more b.kind b.setting from (nodes.Glyph g)))
     ≡ option_map (level_with at.v) (dimension_of (at.h +ℤ g.width))
-glyph-next b h v from at g across here =
-    sym (rigid_after b h v from at (nodes.Glyph g) refl here)
-    ∙ (ap (λ (kind : Kind). fitting_point (right_at kind at.h (advance kind (nodes.Glyph g))) (down_at kind at.v (advance kind (nodes.Glyph g)))) across
-    ∙ level-point (at.h +ℤ g.width) at.v
-    (height_fits (right_at b.kind h (place_at b.setting from)) (down_at b.kind v (place_at b.setting from)) at here))
+glyph-next b h v from at g across here = rigid-next b h v from at (nodes.Glyph g) across refl here
+
+-- The point of a horizontal list after other items, at the height of a point that fits.
+pub level-next :
+    (b : BoxNode) (h v : ℤ) (from to : WalkSums) (at : Point ℤ) → b.kind ≡ Horizontal → point_in b h v (place_at b.setting from) ≡ Some at
+    → point_in b h v (place_at b.setting to) ≡ option_map (level_with at.v) (dimension_of (h +ℤ place_at b.setting to))
+level-next b h v from to at across here =
+    let x = right_at b.kind h (place_at b.setting from) in
+    let y = down_at b.kind v (place_at b.setting from) in
+    let next = place_at b.setting to in
+    let level : at.v ≡ v = (point-is x y at here).1 ∙ ap (λ (kind : Kind). down_at kind v (place_at b.setting from)) across in
+    ap (λ (kind : Kind). fitting_point (right_at kind h next) (down_at kind v next)) across
+    ∙ (ap (λ (z : ℤ). fitting_point (h +ℤ next) z) (sym level) ∙ level-point (h +ℤ next) at.v (height_fits x y at here))
 
 -- The sums after a glyph of a horizontal list.
 pub glyph-sums :

@@ -57,7 +57,7 @@ fn place_of(box_node: &BoxNode, begin: &ListOrigin, cursor: &Cursor) -> Option<P
 
 /// Whether an item is independent of the glue setting.
 #[inline(always)]
-fn is_rigid(node: &Node) -> bool
+pub fn is_rigid(node: &Node) -> bool
     ensures { result ≡ is_rigid node.now }
 {
     match node {

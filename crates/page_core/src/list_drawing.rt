@@ -6,17 +6,21 @@ ghost use Rattle.std.specs.List.{list_all};
 ghost use Rattle.node_core.specs.Nodes.{max_nodes, items_of};
 ghost use Rattle.scaled_core.specs.Dimensions.{fits, dimension_of};
 ghost use Rattle.scaled_core.specs.Mark as body;
+ghost use Rattle.pack_core.specs.Items.{advance};
 ghost use Rattle.pack_core.specs.Cursors.{sums_after, one_more, place_at};
 ghost use Rattle.page_core.specs.Marks.{right_at, down_at, list_v, numbers_after, points_and_sizes};
 ghost use Rattle.node_core.specs.declared.tree.Kind.{Kind};
 ghost use Rattle.page_core.specs.DrawnPages.{DrawnPage, blank, marked, grouped_page, drawn_after};
 ghost use Rattle.page_core.specs.Placing.{Reaches, marked_of, reference_h, reference_v};
-ghost use Rattle.page_core.specs.Private.Placing.{is_blank, level_with, point_in, numbers_between, marked_at};
+ghost use Rattle.page_core.specs.Private.Placing.{is_rigid, is_blank, level_with, point_in, numbers_between, numbers_left, marked_at, drawn_left};
 
-use crate::item_walk::{ItemWalk, ListOrigin, begin_of};
-use crate::placing::{PagePoint, PagePosition, Point, dimension_after, place_item};
+use crate::item_walk::{ItemWalk, ListOrigin, begin_of, is_rigid};
+use crate::placing::{
+    PagePoint, PagePosition, Point, coordinate_after, dimension_after, place_item,
+};
 use crate::sink::{BoxRef, MarkSink};
 use node_core::{BoxNode, Glyph, Kind, Node};
+use pack_core::{Cursor, advance_of};
 use scaled_core::Dimen;
 
 /// The items of a list from an index on.
@@ -135,10 +139,225 @@ fn draw_run<B: BoxRef, S: MarkSink<B>>(
     items.len()
 }
 
+/// A place in a horizontal list: the sums of the items before it, and its position (h, v). A loop over text keeps it in registers.
+#[derive(Clone, Copy, Debug)]
+struct TextPlace {
+    cursor: Cursor,
+    h: Dimen,
+    v: Dimen,
+}
+
 /// Draws the glyphs of a horizontal list from the item at an index on, as far as they have the font of the first one, and moves past them. It returns
 /// the index of the item after them; None only where a number of an item does not fit.
 #[inline(always)]
 fn draw_glyphs<B: BoxRef, S: MarkSink<B>>(
+    sink: &mut S,
+    place: &mut TextPlace,
+    box_node: &BoxNode,
+    begin: &ListOrigin,
+    left: ItemsFrom<'_>,
+) -> Result<Option<usize>, S::Fault>
+    requires kind { box_node.now.kind ≡ Kind.Horizontal }
+    requires within { left.from < length left.items.now }
+    requires items_bounded { length left.items.now ≤ max_nodes }
+    requires cursor { place.old.cursor ≡ sums_after box_node.now.kind box_node.now.setting (take left.from left.items.now) }
+    requires at { point_in box_node.now begin.now.h begin.now.v (place_at box_node.now.setting place.old.cursor)
+        ≡ Some (level_with place.old.v place.old.h) }
+    ensures onward { IfOk result (λ drawn. IfSome drawn (λ next. left.entry.from ≤ next)) }
+    ensures within { IfOk result (λ drawn. IfSome drawn (λ next. next ≤ length left.entry.items.now)) }
+    ensures cursor { IfOk result (λ drawn. IfSome drawn (λ next.
+        place.new.cursor ≡ sums_after box_node.now.kind box_node.now.setting (take next left.entry.items.now))) }
+    ensures at { IfOk result (λ drawn. OnSome drawn (point_in box_node.now begin.now.h begin.now.v (place_at box_node.now.setting place.new.cursor)
+        ≡ Some (level_with place.new.v place.new.h))) }
+    ensures over { IfOk result (λ drawn. drawn ≡ None
+        → list_all fits (numbers_left box_node.now begin.now.h begin.now.v left.entry.items.now left.entry.from) ≡ false) }
+    ensures left { IfOk result (λ drawn. IfSome drawn (λ next.
+        list_all fits (numbers_left box_node.now begin.now.h begin.now.v left.entry.items.now next)
+        ≡ list_all fits (numbers_left box_node.now begin.now.h begin.now.v left.entry.items.now left.entry.from))) }
+    ensures marks { IfOk result (λ drawn. IfSome drawn (λ next.
+        S.drawn_with box_node.now.kind sink.new (drawn_left box_node.now begin.now.h begin.now.v left.entry.items.now next)
+        ≡ S.drawn_with box_node.now.kind sink.old (drawn_left box_node.now begin.now.h begin.now.v left.entry.items.now left.entry.from))) }
+{
+    let ItemsFrom { items, from } = left;
+    let Node::Glyph(glyph) = &items[from] else {
+        return Ok(Some(from));
+    };
+    let h = place.h;
+    let mut run = GlyphRun {
+        h,
+        v: place.v,
+        slot: glyph.slot,
+    };
+    if !draw_first(sink, &mut run, glyph)? {
+        return Ok(None);
+    }
+    let after = ItemsFrom {
+        items,
+        from: from + 1,
+    };
+    let next = draw_run(sink, &mut run, box_node, begin, after);
+    place
+        .cursor
+        .move_over(run.h.exact_sub(h), (next - from) as u32);
+    place.h = run.h;
+    place.v = run.v;
+    Ok(Some(next))
+}
+
+/// Moves past an item of a horizontal list that is independent of the glue setting. It returns whether the value of h after it fits.
+#[tactic(auto, unfolding(scaled_core::specs::Dimensions::dimension_of))]
+#[inline(always)]
+fn pass_rigid(place: &mut TextPlace, box_node: &BoxNode, node: &Node) -> bool
+    requires kind { box_node.now.kind ≡ Kind.Horizontal }
+    requires rigid { is_rigid node.now ≡ true }
+    requires items_bounded { place.old.cursor.passed < max_nodes }
+    ensures cursor { place.new.cursor ≡ one_more box_node.now.kind box_node.now.setting place.old.cursor node.now }
+    ensures v { place.new.v ≡ place.old.v }
+    ensures end { result ≡ true → dimension_of (place.old.h +ℤ advance Kind.Horizontal node.now) ≡ Some place.new.h }
+    ensures over { result ≡ false → dimension_of (place.old.h +ℤ advance Kind.Horizontal node.now) ≡ None }
+{
+    let _kind = box_node.kind;
+    let distance = advance_of(Kind::Horizontal, node);
+    place.cursor.move_on(distance);
+    let Some(h) = dimension_after(place.h, distance) else {
+        return false;
+    };
+    place.h = h;
+    true
+}
+
+/// Moves past an item of a horizontal list, such as glue, and rounds the next place. It returns whether the value of h there fits.
+#[tactic(auto, unfolding(scaled_core::specs::Dimensions::dimension_of))]
+#[inline(always)]
+fn pass_glue(place: &mut TextPlace, box_node: &BoxNode, begin: &ListOrigin, node: &Node) -> bool
+    requires kind { box_node.now.kind ≡ Kind.Horizontal }
+    requires items_bounded { place.old.cursor.passed < max_nodes }
+    ensures cursor { place.new.cursor ≡ one_more box_node.now.kind box_node.now.setting place.old.cursor node.now }
+    ensures v { place.new.v ≡ place.old.v }
+    ensures end { result ≡ true → dimension_of (begin.now.h +ℤ place_at box_node.now.setting place.new.cursor) ≡ Some place.new.h }
+    ensures over { result ≡ false → dimension_of (begin.now.h +ℤ place_at box_node.now.setting place.new.cursor) ≡ None }
+{
+    let _kind = box_node.kind;
+    place.cursor.pass(Kind::Horizontal, &box_node.setting, node);
+    let distance = place.cursor.place(&box_node.setting);
+    let Some(h) = Dimen::from_wide(coordinate_after(begin.h, distance)) else {
+        return false;
+    };
+    place.h = h;
+    true
+}
+
+/// Moves past an item of a horizontal list. It returns whether the next position fits.
+#[inline(always)]
+fn pass_item(place: &mut TextPlace, box_node: &BoxNode, begin: &ListOrigin, node: &Node) -> bool
+    requires kind { box_node.now.kind ≡ Kind.Horizontal }
+    requires items_bounded { place.old.cursor.passed < max_nodes }
+    requires at { point_in box_node.now begin.now.h begin.now.v (place_at box_node.now.setting place.old.cursor)
+        ≡ Some (level_with place.old.v place.old.h) }
+    ensures cursor { place.new.cursor ≡ one_more box_node.now.kind box_node.now.setting place.old.cursor node.now }
+    ensures at { result ≡ true → point_in box_node.now begin.now.h begin.now.v (place_at box_node.now.setting place.new.cursor)
+        ≡ Some (level_with place.new.v place.new.h) }
+    ensures over { result ≡ false → point_in box_node.now begin.now.h begin.now.v (place_at box_node.now.setting place.new.cursor) ≡ None }
+{
+    if is_rigid(node) {
+        return pass_rigid(place, box_node, node);
+    }
+    pass_glue(place, box_node, begin, node)
+}
+
+/// Draws the glyphs of a horizontal list from the item at an index on as `draw_glyphs`, or moves past the item if it has no mark. It returns the
+/// index of the item after them; None only where a number of an item does not fit.
+#[inline(always)]
+fn draw_text_item<B: BoxRef, S: MarkSink<B>>(
+    sink: &mut S,
+    place: &mut TextPlace,
+    box_node: &BoxNode,
+    begin: &ListOrigin,
+    left: ItemsFrom<'_>,
+) -> Result<Option<usize>, S::Fault>
+    requires kind { box_node.now.kind ≡ Kind.Horizontal }
+    requires within { left.from < length left.items.now }
+    requires items_bounded { length left.items.now ≤ max_nodes }
+    requires cursor { place.old.cursor ≡ sums_after box_node.now.kind box_node.now.setting (take left.from left.items.now) }
+    requires at { point_in box_node.now begin.now.h begin.now.v (place_at box_node.now.setting place.old.cursor)
+        ≡ Some (level_with place.old.v place.old.h) }
+    ensures onward { IfOk result (λ drawn. IfSome drawn (λ next. left.entry.from ≤ next)) }
+    ensures within { IfOk result (λ drawn. IfSome drawn (λ next. next ≤ length left.entry.items.now)) }
+    ensures cursor { IfOk result (λ drawn. IfSome drawn (λ next.
+        place.new.cursor ≡ sums_after box_node.now.kind box_node.now.setting (take next left.entry.items.now))) }
+    ensures at { IfOk result (λ drawn. OnSome drawn (point_in box_node.now begin.now.h begin.now.v (place_at box_node.now.setting place.new.cursor)
+        ≡ Some (level_with place.new.v place.new.h))) }
+    ensures over { IfOk result (λ drawn. drawn ≡ None
+        → list_all fits (numbers_left box_node.now begin.now.h begin.now.v left.entry.items.now left.entry.from) ≡ false) }
+    ensures left { IfOk result (λ drawn. IfSome drawn (λ next.
+        list_all fits (numbers_left box_node.now begin.now.h begin.now.v left.entry.items.now next)
+        ≡ list_all fits (numbers_left box_node.now begin.now.h begin.now.v left.entry.items.now left.entry.from))) }
+    ensures marks { IfOk result (λ drawn. IfSome drawn (λ next.
+        S.drawn_with box_node.now.kind sink.new (drawn_left box_node.now begin.now.h begin.now.v left.entry.items.now next)
+        ≡ S.drawn_with box_node.now.kind sink.old (drawn_left box_node.now begin.now.h begin.now.v left.entry.items.now left.entry.from))) }
+{
+    let ItemsFrom { items, from } = left;
+    let node = &items[from];
+    if !is_blank(node) {
+        return draw_glyphs(sink, place, box_node, begin, left);
+    }
+    if !pass_item(place, box_node, begin, node) {
+        return Ok(None);
+    }
+    Ok(Some(from + 1))
+}
+
+/// Draws the glyphs of a horizontal list from the item at an index on, up to the first item with another mark, and moves past them and the items
+/// between them. It returns the index of the item after them; None only where a number of an item does not fit.
+#[inline(always)]
+fn draw_text_items<B: BoxRef, S: MarkSink<B>>(
+    sink: &mut S,
+    place: &mut TextPlace,
+    box_node: &BoxNode,
+    begin: &ListOrigin,
+    left: ItemsFrom<'_>,
+) -> Result<Option<usize>, S::Fault>
+    requires kind { box_node.now.kind ≡ Kind.Horizontal }
+    requires within { left.from ≤ length left.items.now }
+    requires items_bounded { length left.items.now ≤ max_nodes }
+    requires cursor { place.old.cursor ≡ sums_after box_node.now.kind box_node.now.setting (take left.from left.items.now) }
+    requires at { point_in box_node.now begin.now.h begin.now.v (place_at box_node.now.setting place.old.cursor)
+        ≡ Some (level_with place.old.v place.old.h) }
+    ensures onward { IfOk result (λ drawn. IfSome drawn (λ next. left.entry.from ≤ next)) }
+    ensures within { IfOk result (λ drawn. IfSome drawn (λ next. next ≤ length left.entry.items.now)) }
+    ensures cursor { IfOk result (λ drawn. IfSome drawn (λ next.
+        place.new.cursor ≡ sums_after box_node.now.kind box_node.now.setting (take next left.entry.items.now))) }
+    ensures at { IfOk result (λ drawn. OnSome drawn (point_in box_node.now begin.now.h begin.now.v (place_at box_node.now.setting place.new.cursor)
+        ≡ Some (level_with place.new.v place.new.h))) }
+    ensures over { IfOk result (λ drawn. drawn ≡ None
+        → list_all fits (numbers_left box_node.now begin.now.h begin.now.v left.entry.items.now left.entry.from) ≡ false) }
+    ensures left { IfOk result (λ drawn. IfSome drawn (λ next.
+        list_all fits (numbers_left box_node.now begin.now.h begin.now.v left.entry.items.now next)
+        ≡ list_all fits (numbers_left box_node.now begin.now.h begin.now.v left.entry.items.now left.entry.from))) }
+    ensures marks { IfOk result (λ drawn. IfSome drawn (λ next.
+        S.drawn_with box_node.now.kind sink.new (drawn_left box_node.now begin.now.h begin.now.v left.entry.items.now next)
+        ≡ S.drawn_with box_node.now.kind sink.old (drawn_left box_node.now begin.now.h begin.now.v left.entry.items.now left.entry.from))) }
+{
+    let _kind = box_node.kind;
+    let _h = begin.h;
+    let ItemsFrom { items, from } = left;
+    let mut next = from;
+    while next < items.len() {
+        let rest = ItemsFrom { items, from: next };
+        let Some(after) = draw_text_item(sink, place, box_node, begin, rest)? else {
+            return Ok(None);
+        };
+        if after == next {
+            return Ok(Some(after));
+        }
+        next = after;
+    }
+    Ok(Some(next))
+}
+
+/// Draws the text of a horizontal list as `draw_text_items`; of a vertical list nothing.
+#[inline(always)]
+fn draw_text<B: BoxRef, S: MarkSink<B>>(
     sink: &mut S,
     walk: &mut ItemWalk,
     box_node: &BoxNode,
@@ -156,41 +375,30 @@ fn draw_glyphs<B: BoxRef, S: MarkSink<B>>(
     ensures here { IfOk result (λ drawn. OnSome drawn (walk.new.here
         ≡ point_in box_node.now begin.now.h begin.now.v (place_at box_node.now.setting walk.new.cursor))) }
     ensures over { IfOk result (λ drawn. drawn ≡ None
-        → list_all fits (numbers_after box_node.now begin.now.h begin.now.v (take left.entry.from left.entry.items.now)
-        (items_of (drop left.entry.from left.entry.items.now))) ≡ false) }
+        → list_all fits (numbers_left box_node.now begin.now.h begin.now.v left.entry.items.now left.entry.from) ≡ false) }
     ensures left { IfOk result (λ drawn. IfSome drawn (λ next.
-        list_all fits (numbers_after box_node.now begin.now.h begin.now.v (take next left.entry.items.now)
-        (items_of (drop next left.entry.items.now)))
-        ≡ list_all fits (numbers_after box_node.now begin.now.h begin.now.v (take left.entry.from left.entry.items.now)
-        (items_of (drop left.entry.from left.entry.items.now))))) }
+        list_all fits (numbers_left box_node.now begin.now.h begin.now.v left.entry.items.now next)
+        ≡ list_all fits (numbers_left box_node.now begin.now.h begin.now.v left.entry.items.now left.entry.from))) }
     ensures marks { IfOk result (λ drawn. IfSome drawn (λ next.
-        S.drawn_with box_node.now.kind sink.new
-        (drawn_after box_node.now begin.now.h begin.now.v (take next left.entry.items.now) (items_of (drop next left.entry.items.now)))
-        ≡ S.drawn_with box_node.now.kind sink.old
-        (drawn_after box_node.now begin.now.h begin.now.v (take left.entry.from left.entry.items.now)
-        (items_of (drop left.entry.from left.entry.items.now))))) }
+        S.drawn_with box_node.now.kind sink.new (drawn_left box_node.now begin.now.h begin.now.v left.entry.items.now next)
+        ≡ S.drawn_with box_node.now.kind sink.old (drawn_left box_node.now begin.now.h begin.now.v left.entry.items.now left.entry.from))) }
 {
-    let ItemsFrom { items, from } = left;
-    let (Kind::Horizontal, Some(at), Node::Glyph(glyph)) = (box_node.kind, walk.here, &items[from])
-    else {
-        return Ok(Some(from));
+    let (Kind::Horizontal, Some(at)) = (box_node.kind, walk.here) else {
+        return Ok(Some(left.from));
     };
-    let mut run = GlyphRun {
+    let mut place = TextPlace {
+        cursor: walk.cursor,
         h: at.h,
         v: at.v,
-        slot: glyph.slot,
     };
-    if !draw_first(sink, &mut run, glyph)? {
+    let Some(next) = draw_text_items(sink, &mut place, box_node, begin, left)? else {
         return Ok(None);
-    }
-    let after = ItemsFrom {
-        items,
-        from: from + 1,
     };
-    let next = draw_run(sink, &mut run, box_node, begin, after);
-    walk.cursor
-        .move_over(run.h.exact_sub(at.h), (next - from) as u32);
-    walk.here = Some(Point { h: run.h, v: run.v });
+    walk.cursor = place.cursor;
+    walk.here = Some(Point {
+        h: place.h,
+        v: place.v,
+    });
     Ok(Some(next))
 }
 
@@ -313,7 +521,7 @@ fn draw_items<B: BoxRef, S: MarkSink<B>>(
     let mut next = 0;
     while next < items.len() {
         let left = ItemsFrom { items, from: next };
-        let Some(index) = draw_glyphs(sink, &mut walk, box_node, begin, left)? else {
+        let Some(index) = draw_text(sink, &mut walk, box_node, begin, left)? else {
             return Ok(false);
         };
         if index >= items.len() {

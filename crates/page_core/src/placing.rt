@@ -84,7 +84,8 @@ fn fitting_point(h: i128, v: i128) -> Option<PagePosition>
 }
 
 /// A number plus a distance.
-fn coordinate_after(from: i64, distance: i128) -> i128
+#[inline(always)]
+pub(crate) fn coordinate_after(from: i64, distance: i128) -> i128
     requires { Within (2 ^ 126 + 2 ^ 63) distance }
     ensures { result ≡ from +ℤ distance }
 {

@@ -1,11 +1,12 @@
 -- The rest of `Placing`, which no public contract reaches (own).
-use Rattle.std.specs.Prelude.{ℤ, Bool, true, false, List, Option}
+use Rattle.std.specs.Prelude.{ℕ, ℤ, Bool, true, false, List, take, drop, Option}
 use Rattle.node_core.specs.declared.tree.Node.{Node}
 use Rattle.node_core.specs.declared.tree.BoxNode.{BoxNode}
 use Rattle.node_core.specs.declared.tree.Node.TheVariants as nodes
-use Rattle.page_core.specs.Marks.{right_at, down_at, points_and_sizes}
+use Rattle.node_core.specs.Nodes.{items_of}
+use Rattle.page_core.specs.Marks.{right_at, down_at, points_and_sizes, numbers_after}
 use Rattle.page_core.specs.declared.placing.Point.{Point}
-use Rattle.page_core.specs.DrawnPages.{DrawnPage}
+use Rattle.page_core.specs.DrawnPages.{DrawnPage, drawn_after}
 use Rattle.page_core.specs.Placing.{fitting_point, marked_of}
 
 -- Whether an item is independent of the glue setting: every item but glue.
@@ -46,3 +47,11 @@ numbers_between b h v place next x =
 -- The marks of an item at a place of the list, before what is drawn after.
 abbrev pub marked_at : BoxNode → (h v place : ℤ) → Node → DrawnPage → DrawnPage
 marked_at b h v place x rest = marked_of b (right_at b.kind h place) (down_at b.kind v place) x rest
+
+-- The drawn items of a list from item i on; the list begins at (h, v).
+abbrev pub drawn_left : BoxNode → (h v : ℤ) → List Node → (i : ℕ) → DrawnPage
+drawn_left b h v xs i = drawn_after b h v (take i xs) (items_of (drop i xs))
+
+-- The numbers of these items.
+abbrev pub numbers_left : BoxNode → (h v : ℤ) → List Node → (i : ℕ) → List ℤ
+numbers_left b h v xs i = numbers_after b h v (take i xs) (items_of (drop i xs))

@@ -14,9 +14,9 @@ use Rattle.std.specs.Prelude.{ℤ, List, Some, slice_get, true, false, is_some, 
 use Rattle.page_core.specs.Marks.{right_at, down_at, item_h, item_v, list_v, numbers_after}
 use Rattle.page_core.specs.DrawnPages.{DrawnPage, blank, drawn_after}
 use Rattle.page_core.specs.Placing.{reference_h, reference_v}
-use Rattle.page_core.specs.Private.Placing.{marked_at, point_in}
+use Rattle.page_core.specs.Private.Placing.{marked_at, point_in, numbers_left, drawn_left}
 use Rattle.page_core.specs.declared.placing.Point.{Point}
-use Rattle.page_core.proofs.Places.{numbers_left, inside, numbers_inside, drawn_left, fits_more, drawn_more, item_fits, item_marks, inner_begin}
+use Rattle.page_core.proofs.Places.{inside, numbers_inside, fits_more, drawn_more, item_fits, item_marks, inner_begin}
 use Rattle.page_core.proofs.Places.{inner_numbers, inner_drawn, inner_depth, leaf_numbers, no_numbers, special_drawn, rest_of_and, first_false}
 use Rattle.page_core.proofs.Places.{second_false, few_passed, reached-none, item_at, item_is, leaf_drawn}
 use Rattle.page_core.proofs.Walked.{told, told_on, told_index}
@@ -48,9 +48,9 @@ draw_items-draw_item-requires-clause-items_bounded g t c =
     let b = c.as_box-box_node.result.now in
     let xs = c.as_slice-items.result.now in
     let i = c.in-Some.index in
-    let walked = told_index (λ n. c.draw_glyphs.new.walk.cursor ≡ sums_after b.kind b.setting (take n xs)) _ i c.in-Some.is c.in_ok-index.ensures.cursor in
+    let walked = told_index (λ n. c.draw_text.new.walk.cursor ≡ sums_after b.kind b.setting (take n xs)) _ i c.in-Some.is c.in_ok-index.ensures.cursor in
     let within_list : i < length xs = omega (arith, c.if-index-items.false) in
-    few_passed b.kind b.setting xs i c.draw_glyphs.new.walk.cursor walked within_list (rw c.as_slice-items.ensures.nodes c.as_slice-items.ensures.list_bounded)
+    few_passed b.kind b.setting xs i c.draw_text.new.walk.cursor walked within_list (rw c.as_slice-items.ensures.nodes c.as_slice-items.ensures.list_bounded)
 
 pub draw_items-returns-in_default-2-clause-fits : goal.draw_items-returns-in_default-2-clause-fits
 draw_items-returns-in_default-2-clause-fits g t c =
@@ -59,12 +59,12 @@ draw_items-returns-in_default-2-clause-fits g t c =
     let v = c.args.begin.now.v in
     let xs = c.as_slice-items.result.now in
     let i = c.in-Some.index in
-    let walked = told_index (λ n. c.draw_glyphs.new.walk.cursor ≡ sums_after b.kind b.setting (take n xs)) _ i c.in-Some.is c.in_ok-index.ensures.cursor in
+    let walked = told_index (λ n. c.draw_text.new.walk.cursor ≡ sums_after b.kind b.setting (take n xs)) _ i c.in-Some.is c.in_ok-index.ensures.cursor in
     let within_list : i < length xs = omega (arith, c.if-index-items.false) in
     let left = told_index (λ n. list_all fits (numbers_left b h v xs n) ≡ list_all fits (numbers_left b h v xs c.loop-next.next)) _ i c.in-Some.is c.in_ok-index.ensures.left
     ∙ c.loop-next.invariant.left in
     let x = c.index-items-index.result in
-    let here = item_fits b h v (take i xs) x c.draw_glyphs.new.walk.cursor _ walked (sym (ap is_some c.in_default-2.is) ∙ c.in_ok-at.ensures.fits) in
+    let here = item_fits b h v (take i xs) x c.draw_text.new.walk.cursor _ walked (sym (ap is_some c.in_default-2.is) ∙ c.in_ok-at.ensures.fits) in
     let whole : items_of xs ≡ b.list = ap items_of c.as_slice-items.ensures.nodes ∙ items_of-nodes_of b.list in
     sym (first_false _ _ here)
     ∙ (sym (fits_more b h v xs i x within_list c.index-items-index.is)
@@ -87,7 +87,7 @@ draw_items-draw_group-requires g t c κs within =
     let b = c.as_box-box_node.result.now in
     let xs = c.as_slice-items.result.now in
     let i = c.in-Some.index in
-    let walked = told_index (λ n. c.draw_glyphs.new.walk.cursor ≡ sums_after b.kind b.setting (take n xs)) _ i c.in-Some.is c.in_ok-index.ensures.cursor in
+    let walked = told_index (λ n. c.draw_text.new.walk.cursor ≡ sums_after b.kind b.setting (take n xs)) _ i c.in-Some.is c.in_ok-index.ensures.cursor in
     let within_list : i < length xs = omega (arith, c.if-index-items.false) in
     let x = c.index-items-index.result in
     let found = c.in-Some-inner.ensures.some in
@@ -103,7 +103,7 @@ draw_items-returns-then-not-branch-clause-fits g t c =
     let v = c.args.begin.now.v in
     let xs = c.as_slice-items.result.now in
     let i = c.in-Some.index in
-    let walked = told_index (λ n. c.draw_glyphs.new.walk.cursor ≡ sums_after b.kind b.setting (take n xs)) _ i c.in-Some.is c.in_ok-index.ensures.cursor in
+    let walked = told_index (λ n. c.draw_text.new.walk.cursor ≡ sums_after b.kind b.setting (take n xs)) _ i c.in-Some.is c.in_ok-index.ensures.cursor in
     let within_list : i < length xs = omega (arith, c.if-index-items.false) in
     let left = told_index (λ n. list_all fits (numbers_left b h v xs n) ≡ list_all fits (numbers_left b h v xs c.loop-next.next)) _ i c.in-Some.is c.in_ok-index.ensures.left
     ∙ c.loop-next.invariant.left in
@@ -112,12 +112,12 @@ draw_items-returns-then-not-branch-clause-fits g t c =
     let found = c.in-Some-inner.ensures.some in
     let read = ap (λ (ys : List Node). slice_get ys i) (c.as_slice-items.ensures.nodes ∙ ap (λ (box : BoxNode). nodes_of box.list) c.as_box-box_node.ensures) ∙ found.1 in
     let is = item_is xs i x _ within_list c.index-items-index.is read in
-    let here = item_fits b h v (take i xs) x c.draw_glyphs.new.walk.cursor _ walked (sym (ap is_some c.in-Some-2.is) ∙ c.in_ok-at.ensures.fits) in
-    let place = place_at b.setting c.draw_glyphs.new.walk.cursor in
+    let here = item_fits b h v (take i xs) x c.draw_text.new.walk.cursor _ walked (sym (ap is_some c.in-Some-2.is) ∙ c.in_ok-at.ensures.fits) in
+    let place = place_at b.setting c.draw_text.new.walk.cursor in
     let right = told (λ (p : Point ℤ). p.h ≡ reference_h b.kind (right_at b.kind h place) x) _ c.in-Some-2.at c.in-Some-2.is c.in_ok-at.ensures.h in
     let below = told (λ (p : Point ℤ). p.v ≡ reference_v b.kind (down_at b.kind v place) x) _ c.in-Some-2.at c.in-Some-2.is c.in_ok-at.ensures.v in
     let start_v = list_v inner.kind inner.height c.point.result.v in
-    let begin = inner_begin b inner h v (take i xs) x found.0 c.draw_glyphs.new.walk.cursor c.in-Some-2.at.h c.in-Some-2.at.v c.point.result.h start_v
+    let begin = inner_begin b inner h v (take i xs) x found.0 c.draw_text.new.walk.cursor c.in-Some-2.at.h c.in-Some-2.at.v c.point.result.h start_v
     walked is right below c.point.ensures.h (ap (list_v inner.kind inner.height) c.point.ensures.v) in
     let numbers = inner_numbers b inner (item_h b h (take i xs)) (item_v b v (take i xs)) found.0 c.point.result.h start_v x is begin in
     let none : false ≡ list_all fits (numbers_inside b (item_h b h (take i xs)) (item_v b v (take i xs)) x) =
@@ -135,12 +135,12 @@ draw_items-loop-next-preserved g t c =
     let v = c.args.begin.now.v in
     let xs = c.as_slice-items.result.now in
     let i = c.in-Some.index in
-    let walked = told_index (λ n. c.draw_glyphs.new.walk.cursor ≡ sums_after b.kind b.setting (take n xs)) _ i c.in-Some.is c.in_ok-index.ensures.cursor in
+    let walked = told_index (λ n. c.draw_text.new.walk.cursor ≡ sums_after b.kind b.setting (take n xs)) _ i c.in-Some.is c.in_ok-index.ensures.cursor in
     let within_list : i < length xs = omega (arith, c.if-index-items.false) in
     let left = told_index (λ n. list_all fits (numbers_left b h v xs n) ≡ list_all fits (numbers_left b h v xs c.loop-next.next)) _ i c.in-Some.is c.in_ok-index.ensures.left
     ∙ c.loop-next.invariant.left in
     let marked_so_far = told_index
-    (λ n. g.S.MarkSink.drawn_with b.kind c.draw_glyphs.new.sink (drawn_left b h v xs n) ≡ g.S.MarkSink.drawn_with b.kind c.loop-next.sink
+    (λ n. g.S.MarkSink.drawn_with b.kind c.draw_text.new.sink (drawn_left b h v xs n) ≡ g.S.MarkSink.drawn_with b.kind c.loop-next.sink
     (drawn_left b h v xs c.loop-next.next)) _ i c.in-Some.is c.in_ok-index.ensures.marks
     ∙ c.loop-next.invariant.marks in
     let x = c.index-items-index.result in
@@ -150,14 +150,14 @@ draw_items-loop-next-preserved g t c =
     let later = drawn_left b h v xs (i + 1) in
     let own = inside b x_h x_v x later in
     let drawn = g.S.MarkSink.drawn_with b.kind in
-    let first = c.draw_glyphs.new.sink in
+    let first = c.draw_text.new.sink in
     let marked = c.draw_item.new.sink in
     let read : nodes_of (g.B.BoxRef.box_node c.args.tree).list ≡ xs = sym (c.as_slice-items.ensures.nodes ∙ ap (λ (box : BoxNode). nodes_of box.list) c.as_box-box_node.ensures) in
     let shown : slice_get (nodes_of (g.B.BoxRef.box_node c.args.tree).list) i ≡ Some x = ap (λ (ys : List Node). slice_get ys i) read ∙ item_at xs i x within_list at_i in
-    let here = item_fits b h v (take i xs) x c.draw_glyphs.new.walk.cursor _ walked (sym (ap is_some c.in-Some-2.is) ∙ c.in_ok-at.ensures.fits) in
-    let place = place_at b.setting c.draw_glyphs.new.walk.cursor in
+    let here = item_fits b h v (take i xs) x c.draw_text.new.walk.cursor _ walked (sym (ap is_some c.in-Some-2.is) ∙ c.in_ok-at.ensures.fits) in
+    let place = place_at b.setting c.draw_text.new.walk.cursor in
     let seen = marked_at b h v place x own in
-    let mark = item_marks b h v (take i xs) x c.draw_glyphs.new.walk.cursor own seen walked refl in
+    let mark = item_marks b h v (take i xs) x c.draw_text.new.walk.cursor own seen walked refl in
     let right = told (λ (p : Point ℤ). p.h ≡ reference_h b.kind (right_at b.kind h place) x) _ c.in-Some-2.at c.in-Some-2.is c.in_ok-at.ensures.h in
     let below = told (λ (p : Point ℤ). p.v ≡ reference_v b.kind (down_at b.kind v place) x) _ c.in-Some-2.at c.in-Some-2.is c.in_ok-at.ensures.v in
     let marks_same = told_on ((rest : DrawnPage) → drawn first (marked_at b h v place x rest) ≡ drawn marked rest) _ c.in-Some-2.at c.in-Some-2.is
@@ -170,7 +170,7 @@ draw_items-loop-next-preserved g t c =
           let found = w.in-Some-inner.ensures.some in
           let is : x ≡ nodes.Box found.0 inner = item_is xs i x _ within_list at_i (sym (ap (λ (ys : List Node). slice_get ys i) read) ∙ found.1) in
           let start_v = list_v inner.kind inner.height w.point.result.v in
-          let begin = inner_begin b inner h v (take i xs) x found.0 c.draw_glyphs.new.walk.cursor c.in-Some-2.at.h c.in-Some-2.at.v w.point.result.h start_v
+          let begin = inner_begin b inner h v (take i xs) x found.0 c.draw_text.new.walk.cursor c.in-Some-2.at.h c.in-Some-2.at.v w.point.result.h start_v
           walked is right below w.point.ensures.h (ap (list_v inner.kind inner.height) w.point.ensures.v) in
           let numbers = inner_numbers b inner x_h x_v found.0 w.point.result.h start_v x is begin in
           let group = inner_drawn b inner x_h x_v found.0 w.point.result.h start_v x later is begin in
@@ -182,7 +182,7 @@ draw_items-loop-next-preserved g t c =
       | draw_items-in-Special+in-Some-text+in_ok-draw_special-in-Special w ↦
           let text = g.B.BoxRef.bytes w.in-Some-text.text in
           let is : x ≡ nodes.Special text = item_is xs i x _ within_list at_i (sym (ap (λ (ys : List Node). slice_get ys i) read) ∙ w.in-Some-text.ensures.some) in
-          let found = special_drawn b h v (take i xs) x text c.draw_glyphs.new.walk.cursor c.in-Some-2.at.h c.in-Some-2.at.v later walked is
+          let found = special_drawn b h v (take i xs) x text c.draw_text.new.walk.cursor c.in-Some-2.at.h c.in-Some-2.at.v later walked is
           right below in (
             sym (ap (λ (y : Node). list_all fits (numbers_inside b x_h x_v y)) is),
             ap (drawn marked) found ∙ (w.in_ok-draw_special-in-Special.ensures.special b.kind later ∙ sym (ap (λ (s : _). drawn s later) w.sink-is)),
@@ -197,7 +197,7 @@ draw_items-loop-next-preserved g t c =
     record {
       within = omega (arith, within_list);
       cursor =
-          told_on (c.draw_item.new.walk.cursor ≡ one_more b.kind b.setting c.draw_glyphs.new.walk.cursor x) _ c.in-Some-2.at c.in-Some-2.is c.in_ok-at.ensures.cursor
+          told_on (c.draw_item.new.walk.cursor ≡ one_more b.kind b.setting c.draw_text.new.walk.cursor x) _ c.in-Some-2.at c.in-Some-2.is c.in_ok-at.ensures.cursor
           ∙ (ap (λ r. one_more b.kind b.setting r x) walked ∙ reached-more b.kind b.setting xs i x within_list at_i);
       here = told_on (c.draw_item.new.walk.here ≡ point_in b h v (place_at b.setting c.draw_item.new.walk.cursor)) _ c.in-Some-2.at c.in-Some-2.is c.in_ok-at.ensures.here;
       left = rest_of_and _ _ _ within.0
@@ -253,13 +253,13 @@ draw_items-returns-then-index-items-clause-marks g t c all =
     let xs = c.as_slice-items.result.now in
     let i = c.in-Some.index in
     let marked_so_far = told_index
-    (λ n. g.S.MarkSink.drawn_with b.kind c.draw_glyphs.new.sink (drawn_left b h v xs n) ≡ g.S.MarkSink.drawn_with b.kind c.loop-next.sink
+    (λ n. g.S.MarkSink.drawn_with b.kind c.draw_text.new.sink (drawn_left b h v xs n) ≡ g.S.MarkSink.drawn_with b.kind c.loop-next.sink
     (drawn_left b h v xs c.loop-next.next)) _ i c.in-Some.is c.in_ok-index.ensures.marks
     ∙ c.loop-next.invariant.marks in
     let drawn = g.S.MarkSink.drawn_with in
     let whole : items_of xs ≡ b.list = ap items_of c.as_slice-items.ensures.nodes ∙ items_of-nodes_of b.list in
-    let done = ap (λ after. drawn b.kind c.draw_glyphs.new.sink (drawn_after b h v (take i xs) (items_of after)))
+    let done = ap (λ after. drawn b.kind c.draw_text.new.sink (drawn_after b h v (take i xs) (items_of after)))
     (drop_all i xs (omega (arith, c.if-index-items.true))) in
     sym (ap (λ (box : BoxNode). drawn box.kind c.args.sink.now (drawn_after box h v [] box.list)) c.as_box-box_node.ensures)
     ∙ (ap (λ items. drawn b.kind c.args.sink.now (drawn_after b h v [] items)) (sym whole)
-    ∙ (sym marked_so_far ∙ (done ∙ ap (λ (box : BoxNode). drawn box.kind c.draw_glyphs.new.sink blank) c.as_box-box_node.ensures)))
+    ∙ (sym marked_so_far ∙ (done ∙ ap (λ (box : BoxNode). drawn box.kind c.draw_text.new.sink blank) c.as_box-box_node.ensures)))

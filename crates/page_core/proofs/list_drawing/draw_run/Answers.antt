@@ -7,9 +7,9 @@ use Rattle.node_core.specs.declared.tree.Node.{Node}
 use Rattle.node_core.specs.declared.tree.Node.TheVariants as nodes
 use Rattle.pack_core.specs.Cursors.{WalkSums, sums_after, place_at}
 use Rattle.pack_core.proofs.Walks.{reached-more}
-use Rattle.page_core.specs.Private.Placing.{level_with, point_in}
+use Rattle.page_core.specs.Private.Placing.{level_with, point_in, drawn_left}
 use Rattle.page_core.proofs.Walked.{glyph-next, glyph-sums, ends, across-so}
-use Rattle.page_core.proofs.Places.{drawn_left, glyph_passed, glyph_drawn}
+use Rattle.page_core.proofs.Places.{glyph_passed, glyph_drawn}
 use Rattle.page_core.proofs.list_drawing.draw_run.Goals as goal
 
 pub loop-index-preserved : goal.loop-index-preserved
