@@ -45,6 +45,7 @@ impl<'a> PbmText<'a> {
         ensures all { piece.new.items ++ pbm_text_left self.new ≡ piece.old.items ++ pbm_text_left self.old }
         ensures begun { IsTrue self.new.begun }
         ensures capacity { vec_capacity piece.old ≤ vec_capacity piece.new }
+        ensures within { vec_len piece.new ≤ vec_capacity piece.old }
     {
         if !self.begun {
             append_header(piece, self.rows.width, self.rows.height);
@@ -52,32 +53,37 @@ impl<'a> PbmText<'a> {
         }
     }
 
-    /// Appends the next rows, as far as the capacity of `piece` allows. It takes no memory.
-    fn fill(&mut self, piece: &mut Vec<u8>)
-        requires { IsTrue self.old.begun }
+    /// Appends the next rows, as far as `most` bytes of `piece` allow, which are within its capacity. It takes no memory.
+    fn fill(&mut self, most: usize, piece: &mut Vec<u8>)
+        requires begun { IsTrue self.old.begun }
+        requires within { vec_len piece.old ≤ most }
+        requires space { most ≤ vec_capacity piece.old }
         ensures all { piece.new.items ++ pbm_text_left self.new ≡ piece.old.items ++ pbm_text_left self.old }
-        ensures none { ROW_TEXT ≤ vec_capacity piece.old → piece.new.items ≡ [] → pbm_text_left self.new ≡ [] }
+        ensures none { ROW_TEXT ≤ most → piece.new.items ≡ [] → pbm_text_left self.new ≡ [] }
         ensures capacity { vec_capacity piece.old ≤ vec_capacity piece.new }
+        ensures within { vec_len piece.new ≤ most }
     {
         let size = self.rows.row_size();
-        while self.done < self.rows.height && piece.capacity() - piece.len() >= size {
+        while self.done < self.rows.height && most - piece.len() >= size {
             append_row(piece, self.rows, self.done, &mut self.digits);
             self.done += 1;
         }
     }
 
-    /// Replaces `piece`, which has a capacity of at least ROW_TEXT bytes, by the next piece of the text. Returns whether there was one. It takes no
-    /// memory. A piece ends after a row.
+    /// Replaces `piece`, which has a capacity of at least ROW_TEXT bytes, by the next piece of the text, which has no more bytes than this capacity.
+    /// Returns whether there was one. It takes no memory. A piece ends after a row.
     pub fn next_piece(&mut self, piece: &mut Vec<u8>) -> bool
         requires { ROW_TEXT ≤ vec_capacity piece.old }
         ensures all { pbm_text_left self.old ≡ piece.new.items ++ pbm_text_left self.new }
         ensures none { result ≡ false → pbm_text_left self.old ≡ [] }
         ensures piece_nonempty { IsTrue result → 0 < length piece.new.items }
+        ensures within { length piece.new.items ≤ vec_capacity piece.old }
         ensures capacity { vec_capacity piece.old ≤ vec_capacity piece.new }
     {
         piece.clear();
+        let most = piece.capacity();
         self.begin(piece);
-        self.fill(piece);
+        self.fill(most, piece);
         !piece.is_empty()
     }
 }

@@ -80,24 +80,27 @@ impl<'d, 'a> Lines<'d, 'a> {
             → vec_len text.old < vec_len text.new }
         ensures fewer { vec_len text.old < vec_len text.new → lines_left self.new < lines_left self.old }
         ensures capacity { vec_capacity text.old ≤ vec_capacity text.new }
+        ensures within { vec_len text.new ≤ vec_capacity text.old }
         ensures same { self.new.seen_items.file ≡ self.old.seen_items.file }
     {
+        let capacity = text.capacity();
         let mut part = ListingPart::new();
-        while text.capacity() - text.len() >= PART && self.next(&mut part) {
+        while capacity - text.len() >= PART && self.next(&mut part) {
             let Ok(()) = text.extend_from_slice(part.as_bytes()) else {
                 unreachable!()
             };
         }
     }
 
-    /// Replaces `piece`, which has a capacity of at least PART bytes, by the next piece of the listing. Returns whether there was one. It takes no
-    /// memory.
+    /// Replaces `piece`, which has a capacity of at least PART bytes, by the next piece of the listing, which has no more bytes than this capacity.
+    /// Returns whether there was one. It takes no memory.
     pub fn next_piece(&mut self, piece: &mut Vec<u8>) -> bool
         requires space { PART ≤ vec_capacity piece.old }
         requires remaining { (text : List ℕ) × AreLinesLeft self.old text }
         ensures all { (text : List ℕ) → AreLinesLeft self.old text → GivesFirst text piece.new.items self.new }
         ensures none { result ≡ false → (text : List ℕ) → AreLinesLeft self.old text → text ≡ [] }
         ensures piece_not_empty { IsTrue result → 0 < length piece.new.items }
+        ensures within { length piece.new.items ≤ vec_capacity piece.old }
         ensures fewer { IsTrue result → lines_left self.new < lines_left self.old }
         ensures capacity { vec_capacity piece.old ≤ vec_capacity piece.new }
         // Whatever the whole listing is, it stays so.

@@ -21,4 +21,6 @@ loop-self-preserved c =
       begun = c.loop-self.invariant.begun;
       size = c.loop-self.invariant.size;
       capacity = omega (arith, c.loop-self.invariant.capacity, c.append_row.ensures.capacity);
+      within = omega (arith, c.loop-self.invariant.within, c.append_row.ensures.len, c.loop-self.invariant.size);
+      space = omega (arith, c.loop-self.invariant.space, c.append_row.ensures.capacity);
     }

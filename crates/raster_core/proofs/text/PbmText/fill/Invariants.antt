@@ -1,5 +1,5 @@
 -- The bytes so far and the rest are the whole.
-use Rattle.std.proofs.Common.{◌≡◌, ◌++◌, ◌-◌, ◌≤◌, true, vec_capacity}
+use Rattle.std.proofs.Common.{◌≡◌, ◌++◌, ◌-◌, ◌≤◌, true, vec_capacity, vec_len}
 use Rattle.raster_core.specs.Private.RowPieces.{row_size}
 use Rattle.raster_core.specs.TextLeft.{pbm_text_left}
 use Rattle.raster_core.proofs.text.PbmText.fill.Given as goal
@@ -10,6 +10,8 @@ invariant-loop-self l = record {
   begun : l.self.begun ≡ true;
   size : l.size ≡ row_size l.self.rows.width;
   capacity : vec_capacity l.initial.piece ≤ vec_capacity l.piece;
+  within : vec_len l.piece ≤ l.most;
+  space : l.most ≤ vec_capacity l.piece;
 }
 
 abbrev pub decreases-loop-self : goal.decreases-loop-self

@@ -1,5 +1,5 @@
 -- One more line is appended, or none is left.
-use Rattle.std.proofs.Common.{◌≡◌, [], ◌++◌, List, ℕ, length, vec_items, arith, ap, inl, inr, refl, sym, ◌∙◌}
+use Rattle.std.proofs.Common.{◌≡◌, [], ◌++◌, List, ℕ, length, vec_items, arith, ap, inl, inr, refl, rules, sym, ◌∙◌}
 use Rattle.dvi_read.specs.ItemsLeft.{lines_left}
 use Rattle.dvi_read.proofs.LineLemmas.{below, not_above, nothing_filled, the_other, whole_next}
 use Rattle.dvi_read.proofs.listings.lines.Lines.fill.Goals as goal
@@ -25,6 +25,8 @@ loop-self-preserved c =
           (later, whole_next c.args.text.now.items text c.extend_from_slice.new.self.items part rest later lines appended split same, now));
       grown = omega (arith, grown, c.in-Ok.ensures.len);
       capacity = omega (arith, held.capacity, c.in-Ok.ensures.capacity);
+      most = held.most;
+      within = omega (arith, held.within, c.in-Ok.ensures.len, c.as_bytes.ensures.length_bounded);
       less = not_above _ _ fewer;
       same = next.same ∙ held.same;
       begun = inr (omega (arith, grown, c.in-Ok.ensures.len, size, some), fewer);
@@ -53,6 +55,8 @@ loop-self-init c =
       whole = λ lines first. (lines, refl, first);
       grown = omega arith;
       capacity = omega arith;
+      most = search rules;
+      within = search rules;
       less = omega arith;
       same = refl;
       begun = inl refl;

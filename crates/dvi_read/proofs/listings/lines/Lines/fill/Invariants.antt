@@ -10,6 +10,8 @@ invariant-loop-self l = record {
       × AreLinesLeft l.self rest;
   grown : vec_len l.initial.text ≤ vec_len l.text;
   capacity : vec_capacity l.initial.text ≤ vec_capacity l.text;
+  most : l.capacity ≡ vec_capacity l.initial.text;
+  within : vec_len l.text ≤ l.capacity;
   less : lines_left l.self ≤ lines_left l.initial.self;
   same : l.self.seen_items.file ≡ l.initial.self.seen_items.file;
   begun : (l.text ≡ l.initial.text) ⊎ ((vec_len l.initial.text < vec_len l.text) × (lines_left l.self < lines_left l.initial.self));
