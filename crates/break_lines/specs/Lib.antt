@@ -17,4 +17,5 @@ pub mod Problems
 pub mod Chosen
 pub mod Ways
 pub mod Tables
+pub mod Totals
 pub mod Private

@@ -202,8 +202,8 @@ fn is_apart(before: Fitness, class: Fitness) -> bool
 
 /// The demerits for a line whose class is visually incompatible with that of the line before.
 #[tactic(auto, unfolding(crate::specs::Costs::adjacent_demerits))]
-#[inline]
-fn adjacent_demerits(params: &Params, before: Fitness, class: Fitness) -> i64
+#[inline(always)]
+pub(crate) fn adjacent_demerits(params: &Params, before: Fitness, class: Fitness) -> i64
     ensures value { result ≡ adjacent_demerits params.now before class }
     ensures value_bounded { Within 500000000 result }
 {

@@ -1,11 +1,16 @@
 //! Entries of the table: the best way to a state. They correspond to TeX's active and passive nodes.
 
 ghost use Rattle.std.specs.Prelude.{◌≡◌, ◌<◌, ◌≤◌, true, false, Some};
+ghost use Rattle.scaled_core.specs.Dimensions.{Within};
+ghost use Rattle.break_lines.specs.Costs.{adjacent_demerits};
 ghost use Rattle.break_lines.specs.Orders.{NotAfter};
 ghost use Rattle.break_lines.specs.Tables.{Entry, first_entry, extended_entry, compared_numbers, IsSmallLine, IsKept};
 ghost use Rattle.break_lines.specs.Problems.{max_places};
+ghost use Rattle.break_lines.specs.Totals.{AreSmallTotals, totals_before, line_of_totals, entry_with_totals};
 
-use crate::state::{BreakState, LineCost, order};
+use crate::cost::adjacent_demerits;
+use crate::state::{BreakState, Fitness, LineCost, order};
+use node_core::Params;
 use std::cmp::Ordering;
 use std::marker::Model;
 
@@ -91,6 +96,41 @@ impl Entry {
             end: self.end.after(place as u32, line, cut),
             overhang: self.overhang + line.overhang,
             demerits: self.demerits + line.demerits,
+            from: self.end,
+            index,
+        }
+    }
+
+    /// The totals of the way to this entry, with the demerits for its class before a line of a class.
+    #[inline(always)]
+    pub fn totals_before(self, params: &Params, class: Fitness) -> LineCost
+        ensures value { result ≡ totals_before params.now self class }
+        ensures totals_bounded { AreSmallTotals result }
+        ensures class_bounded { Within 500000000 (adjacent_demerits params.now self.end.class class) }
+    {
+        LineCost {
+            class,
+            overhang: self.overhang,
+            demerits: self.demerits + adjacent_demerits(params, self.end.class, class),
+        }
+    }
+
+    /// This entry, number `index` of its table, extended by a line to a later place, given the totals with that line, if no lines are counted.
+    #[inline(always)]
+    pub fn with_totals(self, index: usize, place: usize, totals: LineCost) -> Entry
+        requires later { self.end.place < place }
+        requires places { place ≤ max_places }
+        requires line_bounded { IsSmallLine (line_of_totals self totals) }
+        ensures { result ≡ entry_with_totals self index place totals }
+    {
+        Entry {
+            end: BreakState {
+                place: place as u32,
+                lines: 0,
+                class: totals.class,
+            },
+            overhang: totals.overhang,
+            demerits: totals.demerits,
             from: self.end,
             index,
         }

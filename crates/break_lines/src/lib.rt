@@ -45,5 +45,5 @@ pub use list_meter::ListMeter;
 pub use meter::{Breakpoint, Meter};
 pub use row::{empty_row, flush_row, offer, put};
 pub use sizes::{Alone, LineFits, fit_both, line_size};
-pub use state::{BreakState, Fitness, LineCost};
+pub use state::{BreakState, Fitness, LineCost, order};
 pub use sums::Sums;
