@@ -27,20 +27,6 @@ use Rattle.break_core.proofs.Active.{row_same}
 pub group_of : (p : Problem) (table : List Entry) (b : ℕ) (g : ActiveGroup) → IsTable p b table → IsGroup p table b g → IsOf p.cut table g
 group_of p table b g is group k e low high at = (group.entries k e low high at, (is.below k e at).1)
 
--- So have those of a new group, and those of the group of the start.
-pub new_of :
-    (p : Problem) (table : List Entry) (row : List (Option Entry)) (b : ℕ) (g : ActiveGroup)
-    → 0 < b → IsTable p b table → IsRow p table b (length table) row → g.place ≡ b → g.start ≡ length table → g.end ≡ length (table ++ row_entries row)
-    → IsOf p.cut (table ++ row_entries row) g
-new_of p table row b g some is full place start end =
-    group_of p (table ++ row_entries row) (b + 1) g (next_table p b table row some is full) (new_group p table row b g full some place start end)
-
-pub first_of : (cut : ℕ) (g : ActiveGroup) → g.place ≡ 0 → g.end ≡ 1 → IsOf cut (first_entry ∷ []) g
-first_of cut g place end zero e low high at =
-    let same : first_entry ≡ e = same_Some first_entry e at in
-    (ap (λ x. x.end.place) (sym same) ∙ sym place, omega (arith, ap (λ x. x.end.lines) same))
-first_of cut g place end (suc k) e low high at = absurd (omega (arith, end))
-
 -- A line that was judged by its sums is the line of the problem.
 pub fit_is :
     (f h : Facts) (params : Params) (bound : Bound) (g : ActiveGroup) (place : ℕ) (penalty : ℤ) (sums : Sums) (line : LineFits)

@@ -11,5 +11,6 @@ pub mod Detours
 pub mod Long
 pub mod Stopping
 pub mod Lives
+pub mod Offers
 pub mod BestOffers
-pub mod Numbers
+pub mod BestEntries

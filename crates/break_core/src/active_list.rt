@@ -1,20 +1,21 @@
 //! The active list: the groups of entries from which lines are still tried.
 
-ghost use Rattle.std.specs.Prelude.{◌≡◌, ◌<◌, ◌≤◌, ◌+◌, ◌++◌, ◌&&◌, ℕ, true, [], ◌∷◌, length, take, drop, set, slice_get};
+ghost use Rattle.std.specs.Prelude.{◌≡◌, ◌<◌, ◌≤◌, ◌+◌, ◌++◌, ℕ, true, [], ◌∷◌, length, take, drop, set, slice_get};
 ghost use Rattle.std.specs.Prelude.{Some, None, if◌then◌else◌, OnOk};
 ghost use Rattle.break_core.specs.Private.LeftOut.{is_more, kept_over};
 ghost use Rattle.break_core.specs.Private.Active.{with_live, live_of};
 
+use crate::row::Offer;
 use break_lines::ActiveGroup;
 use std::alloc::AllocError;
 
 /// A group of entries from which lines are tried. `over` is the width, shrunk as far as possible, of the line to the first place to which it was
-/// overfull. `best` has for each class, if no lines are counted, the number of the entry that makes the best offer by a line of this class.
+/// overfull. `best` has for each class, if no lines are counted, the entry that makes the best offer by a line of this class.
 #[derive(Clone, Copy, Debug, PartialEq, Eq)]
 pub(crate) struct Live {
     pub(crate) group: ActiveGroup,
     pub(crate) over: Option<i64>,
-    pub(crate) best: [usize; 4],
+    pub(crate) best: [Offer; 4],
 }
 
 /// The groups from which lines are tried, in the order of their places: those of a list from number `first` on. Mostly trying stops from the first
@@ -107,13 +108,13 @@ pub(crate) fn keep_group(lives: &mut LiveGroups, stopped: bool, kept: usize, ind
     kept + 1
 }
 
-/// The number of the first group that waits for a place, after the line from group number `next - 1`; before that line it was `end`. After a line
-/// that is as loose as counts, all groups that come next wait, if groups wait.
+/// The number of the first group that waits for a place, after the line from group number `next - 1`; before that line it was `end`. All groups that
+/// come next may wait.
 #[inline(always)]
-pub(crate) fn first_waiting(loosest: bool, waits: bool, next: usize, end: usize) -> usize
-    ensures { result ≡ (if loosest && waits then next else end) }
+pub(crate) fn first_waiting(all_wait: bool, next: usize, end: usize) -> usize
+    ensures { result ≡ (if all_wait then next else end) }
 {
-    if loosest && waits {
+    if all_wait {
         return next;
     }
     end

@@ -1,11 +1,12 @@
 //! The table of a paragraph in a pass, which is filled place by place.
 
-ghost use Rattle.std.specs.Prelude.{◌≡◌, ◌+◌, ◌<◌, ◌≤◌, true, false, length, replicate, None, OnOk, IfOk};
-ghost use Rattle.break_lines.specs.Tables.{slots, IsTable, IsRow};
+ghost use Rattle.std.specs.Prelude.{◌≡◌, ◌+◌, ◌<◌, ◌≤◌, ◌<ℤ◌, pos, true, false, length, OnOk, IfOk};
+ghost use Rattle.break_lines.specs.Tables.{IsTable, IsRow};
 ghost use Rattle.break_lines.specs.Problems.{max_places};
 ghost use Rattle.break_lines.specs.Even.{IsEven};
 ghost use Rattle.break_lines.specs.Legal.{is_forced};
-ghost use Rattle.break_core.specs.Private.Filling.{CountsMayGrow};
+ghost use Rattle.break_core.specs.Private.Filling.{IsKind, CountsMayGrow};
+ghost use Rattle.break_core.specs.Private.Offers.{row_at, AreOffers, IsEmpty, IsSameRow};
 ghost use Rattle.break_core.specs.Private.Active.{stops_at, problem_leaving_out, groups_of, live_of, MayStop};
 ghost use Rattle.break_core.specs.Private.Active.{AreOver, HaveBest, IsActive, IsFilled, IsSwept};
 ghost use Rattle.break_core.specs.Private.Active.{IsCounted};
@@ -14,9 +15,12 @@ ghost use Rattle.break_core.specs.Private.Active.{TrialsOnlyGrow, WasTried};
 use crate::active_list::{
     LiveGroups, add_group, first_waiting, keep_group, keep_over, remove_groups, rest_of,
 };
-use crate::offering::{TriedLine, new_live, offer_line, offer_waiting};
+use crate::offering::{
+    TriedPlace, all_wait, is_overfull, judge, new_live, offer_line, offer_waiting,
+};
 use crate::pass_rules::Rules;
-use break_lines::{ActiveGroup, Entry, Meter, empty_row, flush_row};
+use crate::row::{Row, move_row, new_row};
+use break_lines::{ActiveGroup, Entry, Meter};
 use std::alloc::{AllocError, Global};
 
 /// The table up to a place, and the groups of its entries from which lines to later places are tried.
@@ -39,41 +43,45 @@ fn either(before: bool, now: bool) -> bool
 /// loosest line. The groups stay in place, since most of them are kept. Returns whether entries were offered. The function is not inlined, so that
 /// its loop has all registers.
 #[inline(never)]
-fn try_lines<M: Meter>(
+fn try_lines<M: Meter, const COUNTED: bool>(
     meter: &mut M,
-    rules: &Rules,
-    table: &[Entry],
+    at: &TriedPlace,
     lives: &mut LiveGroups,
-    row: &mut Vec<Option<Entry>>,
-    place: usize,
+    row: &mut Row,
 ) -> bool
-    requires first { 0 < place }
-    requires last { place ≤ (M.facts meter.old).places }
-    requires places { place ≤ max_places }
-    requires filled { IsFilled (problem_leaving_out (M.facts meter.old) rules.now.params.now rules.now.bound rules.now.stop_rule)
-        (stops_at (M.facts meter.old) rules.now.params.now rules.now.stop_rule) place table.now (groups_of (live_of lives.old)) }
-    requires over { AreOver (M.facts meter.old) rules.now.params.now place (live_of lives.old) }
-    requires best { HaveBest table.now rules.now.params.now (live_of lives.old) }
+    requires kind { IsKind COUNTED at.now.rules.now.params.now.first_lines }
+    requires first { 0 < at.now.place }
+    requires last { at.now.place ≤ (M.facts meter.old).places }
+    requires places { at.now.place ≤ max_places }
+    requires penalty { at.now.penalty ≡ (M.facts meter.old).penalty at.now.place }
+    requires penalty_bounded { at.now.penalty <ℤ pos 10000 }
+    requires filled { IsFilled (problem_leaving_out (M.facts meter.old) at.now.rules.now.params.now at.now.rules.now.bound at.now.rules.now.stop_rule)
+        (stops_at (M.facts meter.old) at.now.rules.now.params.now at.now.rules.now.stop_rule) at.now.place at.now.table.now (groups_of (live_of lives.old)) }
+    requires over { AreOver (M.facts meter.old) at.now.rules.now.params.now at.now.place (live_of lives.old) }
+    requires best { HaveBest at.now.table.now at.now.rules.now.params.now (live_of lives.old) }
     requires first_bounded { lives.old.first ≤ length lives.old.list.items }
-    requires empty { row.old.items ≡ replicate (slots rules.now.params.now.first_lines) None }
-    requires may { MayStop rules.now.stop_rule (M.facts meter.old) rules.now.params.now rules.now.bound }
-    requires waits { rules.now.waits ≡ true → IsEven (M.facts meter.old) }
+    requires empty { IsEmpty at.now.rules.now.params.now.first_lines row.old }
+    requires may { MayStop at.now.rules.now.stop_rule (M.facts meter.old) at.now.rules.now.params.now at.now.rules.now.bound }
+    requires waits { at.now.rules.now.waits ≡ true → IsEven (M.facts meter.old) }
     requires trials_bounded { CountsMayGrow 1 (M.trials meter.old) }
-    ensures row { IsRow (problem_leaving_out (M.facts meter.old) rules.now.params.now rules.now.bound rules.now.stop_rule) table.now place
-        (length table.now) row.new.items }
-    ensures live { is_forced ((M.facts meter.old).penalty place) ≡ false →
-        IsActive (problem_leaving_out (M.facts meter.old) rules.now.params.now rules.now.bound rules.now.stop_rule)
-        (stops_at (M.facts meter.old) rules.now.params.now rules.now.stop_rule) table.now (place + 1) place 0 0 (groups_of (live_of lives.new)) }
-    ensures over { AreOver (M.facts meter.old) rules.now.params.now (place + 1) (live_of lives.new) }
-    ensures best { HaveBest table.now rules.now.params.now (live_of lives.new) }
+    ensures row { IsRow (problem_leaving_out (M.facts meter.old) at.now.rules.now.params.now at.now.rules.now.bound at.now.rules.now.stop_rule) at.now.table.now
+        at.now.place (length at.now.table.now) (row_at at.now.rules.now.params.now.first_lines at.now.table.now at.now.place row.new) }
+    ensures held { at.now.rules.now.params.now.first_lines ≡ 0 → AreOffers at.now.table.now at.now.place row.new.offers }
+    ensures live { is_forced ((M.facts meter.old).penalty at.now.place) ≡ false →
+        IsActive (problem_leaving_out (M.facts meter.old) at.now.rules.now.params.now at.now.rules.now.bound at.now.rules.now.stop_rule)
+        (stops_at (M.facts meter.old) at.now.rules.now.params.now at.now.rules.now.stop_rule) at.now.table.now (at.now.place + 1) at.now.place 0 0 (groups_of (live_of lives.new)) }
+    ensures over { AreOver (M.facts meter.old) at.now.rules.now.params.now (at.now.place + 1) (live_of lives.new) }
+    ensures best { HaveBest at.now.table.now at.now.rules.now.params.now (live_of lives.new) }
     ensures first_bounded { lives.new.first ≤ length lives.new.list.items }
     ensures facts { M.facts meter.new ≡ M.facts meter.old }
-    ensures trials { IsSwept (stops_at (M.facts meter.old) rules.now.params.now rules.now.stop_rule) place (M.trials meter.old) (M.trials meter.new) }
+    ensures trials { IsSwept (stops_at (M.facts meter.old) at.now.rules.now.params.now at.now.rules.now.stop_rule) at.now.place
+        (M.trials meter.old) (M.trials meter.new) }
     ensures kept { TrialsOnlyGrow (M.trials meter.old) (M.trials meter.new) }
     ensures tried { WasTried (groups_of (live_of lives.old)) (M.trials meter.old) (M.trials meter.new) }
-    ensures untouched { result ≡ false → row.new.items ≡ row.old.items }
+    ensures untouched { result ≡ false → IsSameRow row.old row.new }
 {
-    let at = meter.place(place);
+    let rules = at.rules;
+    let place = at.place;
     let mut offered = false;
     let mut kept = lives.first;
     let mut index = lives.first;
@@ -82,28 +90,18 @@ fn try_lines<M: Meter>(
         let live = &lives.list[index];
         let sums = meter.try_line(live.group.place, place);
         let width = sums.least_width();
+        let line = judge(sums, rules.params);
+        let overfull = is_overfull::<COUNTED>(&line, rules.params);
         let left_out = rules.stop_rule.leaves_out(live.over, width);
-        let tried = TriedLine {
-            place,
-            penalty: at.penalty,
-            sums,
-        };
-        let judgement = offer_line(left_out, row, table, live, rules, tried);
-        offered = either(offered, judgement.offered);
-        let stopped = rules.stop_rule.stops_after(judgement.overfull, left_out);
-        keep_over(&mut lives.list, index, judgement.overfull, width);
+        let stopped = rules.stop_rule.stops_after(overfull, left_out);
+        keep_over(&mut lives.list, index, overfull, width);
+        let now = offer_line::<COUNTED>(left_out, row, at, &lives.list[index], &line);
+        offered = either(offered, now);
         kept = keep_group(lives, stopped, kept, index);
         index += 1;
-        end = first_waiting(judgement.loosest, rules.waits, index, end);
+        end = first_waiting(all_wait::<COUNTED>(&line, rules), index, end);
     }
-    let waiting = offer_waiting(
-        row,
-        table,
-        rest_of(&lives.list, end),
-        rules,
-        place,
-        at.penalty,
-    );
+    let waiting = offer_waiting(row, at, rest_of(&lives.list, end));
     remove_groups(&mut lives.list, kept, end);
     either(offered, waiting)
 }
@@ -117,13 +115,14 @@ fn is_passed_over(offered: bool, forced: bool) -> bool
 }
 
 /// Goes on to a place: tries the lines to it, and appends the entries of its row to the table. Most places have none, and there is nothing to append.
-fn add_place<M: Meter>(
+fn add_place<M: Meter, const COUNTED: bool>(
     meter: &mut M,
     rules: &Rules,
     reached: &mut FilledTable,
-    row: &mut Vec<Option<Entry>>,
+    row: &mut Row,
     place: usize,
 ) -> Result<(), AllocError>
+    requires kind { IsKind COUNTED rules.now.params.now.first_lines }
     requires first { 0 < place }
     requires last { place ≤ (M.facts meter.old).places }
     requires places { place ≤ max_places }
@@ -132,7 +131,7 @@ fn add_place<M: Meter>(
     requires over { AreOver (M.facts meter.old) rules.now.params.now place (live_of reached.old.live) }
     requires best { HaveBest reached.old.table.items rules.now.params.now (live_of reached.old.live) }
     requires first_bounded { reached.old.live.first ≤ length reached.old.live.list.items }
-    requires empty { row.old.items ≡ replicate (slots rules.now.params.now.first_lines) None }
+    requires empty { IsEmpty rules.now.params.now.first_lines row.old }
     requires may { MayStop rules.now.stop_rule (M.facts meter.old) rules.now.params.now rules.now.bound }
     requires waits { rules.now.waits ≡ true → IsEven (M.facts meter.old) }
     requires trials_bounded { CountsMayGrow 1 (M.trials meter.old) }
@@ -143,19 +142,26 @@ fn add_place<M: Meter>(
     ensures over { OnOk result (AreOver (M.facts meter.old) rules.now.params.now (place + 1) (live_of reached.new.live)) }
     ensures best { OnOk result (HaveBest reached.new.table.items rules.now.params.now (live_of reached.new.live)) }
     ensures first_bounded { OnOk result (reached.new.live.first ≤ length reached.new.live.list.items) }
-    ensures empty { OnOk result (row.new.items ≡ replicate (slots rules.now.params.now.first_lines) None) }
+    ensures empty { OnOk result (IsEmpty rules.now.params.now.first_lines row.new) }
     ensures facts { M.facts meter.new ≡ M.facts meter.old }
     ensures trials { IsSwept (stops_at (M.facts meter.old) rules.now.params.now rules.now.stop_rule) place (M.trials meter.old) (M.trials meter.new) }
     ensures kept { TrialsOnlyGrow (M.trials meter.old) (M.trials meter.new) }
     ensures tried { OnOk result (WasTried (groups_of (live_of reached.old.live)) (M.trials meter.old) (M.trials meter.new)) }
 {
-    let offered = try_lines(meter, rules, &reached.table, &mut reached.live, row, place);
-    let forced = meter.place(place).is_forced();
+    let breakpoint = meter.place(place);
+    let at = TriedPlace {
+        rules: &*rules,
+        table: &reached.table,
+        place,
+        penalty: breakpoint.penalty,
+    };
+    let offered = try_lines::<M, COUNTED>(meter, &at, &mut reached.live, row);
+    let forced = breakpoint.is_forced();
     if is_passed_over(offered, forced) {
         return Ok(());
     }
     let start = reached.table.len();
-    flush_row(&mut reached.table, row)?;
+    move_row(&mut reached.table, row, rules.params.first_lines.get(), place)?;
     let group = ActiveGroup {
         place,
         start,
@@ -166,13 +172,14 @@ fn add_place<M: Meter>(
     Ok(())
 }
 
-/// The table of all places in a pass. The groups from which lines are tried are in a list, instead of a flag at each place, so that no time is spent
-/// on places from which trying has stopped.
-pub(crate) fn fill<M: Meter>(
+/// The table of all places in a pass, for lines that are counted or not. The groups from which lines are tried are in a list, instead of a flag at
+/// each place, so that no time is spent on places from which trying has stopped.
+fn fill_places<M: Meter, const COUNTED: bool>(
     alloc: Global,
     meter: &mut M,
     rules: &Rules,
 ) -> Result<Vec<Entry>, AllocError>
+    requires kind { IsKind COUNTED rules.now.params.now.first_lines }
     requires may { MayStop rules.now.stop_rule (M.facts meter.old) rules.now.params.now rules.now.bound }
     requires waits { rules.now.waits ≡ true → IsEven (M.facts meter.old) }
     requires trials_bounded { CountsMayGrow max_places (M.trials meter.old) }
@@ -203,13 +210,37 @@ pub(crate) fn fill<M: Meter>(
     let live = new_live(&reached.table, group, rules.params);
     reached.live.list.push(live)?;
     // The row is reused for all places.
-    let mut row = empty_row(alloc, rules.params.first_lines.get())?;
+    let mut row = new_row(alloc, rules.params.first_lines.get())?;
     for before in 0..meter.places() {
         if reached.live.is_empty() {
             // No line is left to try, so no later place has entries.
             return Ok(reached.table);
         }
-        add_place(meter, rules, &mut reached, &mut row, before + 1)?;
+        add_place::<M, COUNTED>(meter, rules, &mut reached, &mut row, before + 1)?;
     }
     Ok(reached.table)
+}
+
+/// The table of all places in a pass. The loop over the trials is compiled twice, so that it keeps nothing for counting where no lines are counted.
+pub(crate) fn fill<M: Meter>(
+    alloc: Global,
+    meter: &mut M,
+    rules: &Rules,
+) -> Result<Vec<Entry>, AllocError>
+    requires may { MayStop rules.now.stop_rule (M.facts meter.old) rules.now.params.now rules.now.bound }
+    requires waits { rules.now.waits ≡ true → IsEven (M.facts meter.old) }
+    requires trials_bounded { CountsMayGrow max_places (M.trials meter.old) }
+    ensures table { IfOk result (λ table.
+        IsTable (problem_leaving_out (M.facts meter.old) rules.now.params.now rules.now.bound rules.now.stop_rule)
+        ((M.facts meter.old).places + 1) table.items) }
+    ensures facts { M.facts meter.new ≡ M.facts meter.old }
+    ensures trials { IsCounted (stops_at (M.facts meter.old) rules.now.params.now rules.now.stop_rule) (M.facts meter.old).places
+        (M.trials meter.old) (M.trials meter.new) }
+    ensures kept { TrialsOnlyGrow (M.trials meter.old) (M.trials meter.new) }
+    ensures tried { OnOk result (M.trials meter.old 0 < M.trials meter.new 0) }
+{
+    if rules.params.first_lines.get() > 0 {
+        return fill_places::<M, true>(alloc, meter, rules);
+    }
+    fill_places::<M, false>(alloc, meter, rules)
 }

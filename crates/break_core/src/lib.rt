@@ -18,6 +18,7 @@ pub mod laws;
 mod offering;
 mod pass_rules;
 mod passes;
+mod row;
 
 pub use break_lines::{Bound, BreakFault, Breakpoint, Fitness, ListMeter, Meter, Sums};
 pub use breaking::{active_breaks, breaks};

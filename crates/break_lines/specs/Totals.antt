@@ -1,6 +1,6 @@
 -- The totals of a way: its overhang, its demerits, and the class of its last or of its next line, without the lines (own).
 use Rattle.std.specs.Prelude.{◌*◌, ◌+◌, ◌^◌, ◌+ℤ◌, ◌-ℤ◌, ℕ}
-use Rattle.scaled_core.specs.Dimensions.{Within}
+pub use Rattle.scaled_core.specs.Dimensions.{Within}
 use Rattle.node_core.specs.declared.params.Params.{Params}
 use Rattle.break_lines.specs.declared.state.Fitness.{Fitness}
 use Rattle.break_lines.specs.declared.state.LineCost.{LineCost}

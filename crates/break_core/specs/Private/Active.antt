@@ -3,12 +3,10 @@ use Rattle.std.specs.Prelude.{◌≡◌, ◌<◌, ◌≤◌, ◌+◌, ◌-◌, �
 use Rattle.std.specs.Prelude.{drop, slice_get, Option, Some, None}
 use Rattle.node_core.specs.declared.params.Params.{Params}
 use Rattle.break_lines.specs.declared.group.ActiveGroup.{ActiveGroup}
-use Rattle.break_lines.specs.Problems.{Problem, class_index, max_places}
-use Rattle.break_lines.specs.Orders.{NotAfter}
+use Rattle.break_lines.specs.Problems.{Problem, max_places}
 use Rattle.break_lines.specs.declared.state.BreakState.{BreakState}
-use Rattle.break_lines.specs.declared.state.Fitness.{Fitness}
 use Rattle.break_lines.specs.declared.state.LineCost.{LineCost}
-use Rattle.break_lines.specs.Tables.{Entry, slots, compared_numbers, IsTable, IsRow, offer}
+use Rattle.break_lines.specs.Tables.{Entry, slots, IsTable, IsRow, offer}
 use Rattle.break_lines.specs.Private.Live.{IsGroup}
 use Rattle.break_lines.specs.Private.Parts.{problem_without}
 use Rattle.break_lines.specs.Chosen.{AdmitsNone}
@@ -27,7 +25,8 @@ use Rattle.break_core.specs.declared.active_list.LiveGroups.{LiveGroups}
 use Rattle.break_core.specs.Passes.{problem_of, bound_of, IsBefore}
 use Rattle.break_core.specs.Trials.{is_overfull, IsStop, places_up_to, passes_run}
 use Rattle.break_core.specs.Private.LeftOut.{is_long, over_before, MayLeaveOut}
-use Rattle.break_core.specs.Private.Filling.{IsOf, offer_from}
+use Rattle.break_core.specs.Private.Filling.{IsOf}
+use Rattle.break_core.specs.Private.Offers.{AreBestFor}
 
 -- Whether trying lines from a place stops after a line from there, which is overfull or not, and long or not.
 abbrev pub stops_after : StopRule → (overfull long : Bool) → Bool
@@ -108,27 +107,11 @@ live_of lives = drop lives.first lives.list.items
 abbrev pub AreOver : Facts → Params → (b : ℕ) → List Live → Type 0
 AreOver facts params b lives = (k : ℕ) (live : Live) → slice_get lives k ≡ Some live → live.over ≡ over_before facts params live.group.place b
 
--- Entry k makes the best offer of the entries `from` to `to` for each place by each line of a class, if no lines are counted.
-pub record IsBestFor (table : List Entry) (params : Params) (class : Fitness) (from to k : ℕ) : Type 0 where
-  pub low : from ≤ k
-  pub high : k < to
-  pub within : to ≤ length table
-  pub entry : Entry
-  pub present : slice_get table k ≡ Some entry
-  pub best :
-      (place : ℕ) (alone : LineCost) (j : ℕ) (f : Entry) → alone.class ≡ class → from ≤ j → j < to → slice_get table j ≡ Some f
-      → NotAfter (compared_numbers (offer_from params entry k place alone)) (compared_numbers (offer_from params f j place alone))
-
--- The entries of a group with these numbers make the best offers by lines of each class.
-abbrev pub AreBestFor : (table : List Entry) → Params → ActiveGroup → (numbers : List ℕ) → Type 0
-AreBestFor table params group numbers =
-    (class : Fitness) (k : ℕ) → slice_get numbers (class_index class) ≡ Some k → IsBestFor table params class group.start group.end k
-
--- The numbers of a live group are those of these entries, if no lines are counted and there can be places after it.
+-- The offers of a live group are the best ones of its entries, if no lines are counted.
 abbrev pub HasBest : (table : List Entry) → Params → Live → Type 0
-HasBest table params live = params.first_lines ≡ 0 → live.group.place < max_places → AreBestFor table params live.group live.best
+HasBest table params live = params.first_lines ≡ 0 → AreBestFor table params live.group.start live.group.end live.best
 
--- Each live group has the right numbers.
+-- Each live group has the right offers.
 abbrev pub HaveBest : (table : List Entry) → Params → List Live → Type 0
 HaveBest table params lives = (k : ℕ) (live : Live) → slice_get lives k ≡ Some live → HasBest table params live
 

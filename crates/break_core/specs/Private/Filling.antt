@@ -1,5 +1,5 @@
 -- The table of a paragraph while it is filled, place by place (own).
-use Rattle.std.specs.Prelude.{◌≡◌, ◌<◌, ◌≤◌, ◌+◌, ◌^◌, ◌<ℤ◌, ℕ, ℤ, pos, Bool, List, length, slice_get, Option, Some, None, if◌then◌else◌}
+use Rattle.std.specs.Prelude.{◌≡◌, ◌<◌, ◌≤◌, ◌+◌, ◌^◌, ◌<ℤ◌, ℕ, ℤ, pos, Bool, true, false, List, length, slice_get, Option, Some, None, if◌then◌else◌}
 use Rattle.node_core.specs.declared.params.Params.{Params}
 use Rattle.break_lines.specs.declared.group.ActiveGroup.{ActiveGroup}
 use Rattle.break_lines.specs.declared.state.BreakState.{BreakState}
@@ -13,12 +13,23 @@ use Rattle.break_lines.specs.Chosen.{AdmitsNone, IsAnswer}
 use Rattle.break_core.specs.declared.broken.Pass.{Pass}
 use Rattle.break_lines.specs.declared.sizes.LineFits.{LineFits}
 use Rattle.break_lines.specs.declared.cost.Bound.{Bound}
-use Rattle.break_lines.specs.Costs.{admitted_line, line_after}
-use Rattle.break_lines.specs.SmallCosts.{IsSmallSums}
-use Rattle.break_core.specs.declared.offering.TriedLine.{TriedLine}
+use Rattle.break_lines.specs.Costs.{line_fit, admitted_line, line_after}
+use Rattle.break_lines.specs.SmallCosts.{IsSmallSums, IsSmallLineFit}
+use Rattle.break_core.specs.declared.offering.JudgedLine.{JudgedLine}
 use Rattle.break_lines.specs.Sizes.{fit_after}
 use Rattle.break_lines.specs.Facts.{Facts}
 use Rattle.break_core.specs.Passes.{problem_of, bound_of, IsBefore}
+
+-- Whether lines are counted.
+abbrev pub IsKind : (counted : Bool) → (first_lines : ℕ) → Type 0
+IsKind true first_lines = 0 < first_lines
+IsKind false first_lines = first_lines ≡ 0
+
+-- A line was judged for the line size from the second line on.
+pub record IsJudged (params : Params) (line : JudgedLine) : Type 0 where
+  pub fit : line.fit ≡ line_fit line.sums params.hsize
+  pub sums_bounded : IsSmallSums line.sums
+  pub fit_bounded : IsSmallLineFit line.fit
 
 -- The entries of a group have its place, and at most `cut` lines are counted in them.
 abbrev pub IsOf : (cut : ℕ) (table : List Entry) → ActiveGroup → Type 0
@@ -49,16 +60,15 @@ IsOfferingUnless left_out table params bound group place penalty line old new =
     → p.line s place ≡ (if left_out then None else admitted_line params bound penalty s.class (fit_after params.first_lines s.lines line)))
     → IsRow p table place group.start old → IsRow p table place group.end new
 
--- The entries of a group can be offered by a line that was tried.
-pub record CanOffer (first_lines : ℕ) (row : List (Option Entry)) (table : List Entry) (group : ActiveGroup) (tried : TriedLine) : Type 0 where
+-- The entries of a group can be offered by a line to a place with this penalty.
+pub record CanOffer (first_lines : ℕ) (row : List (Option Entry)) (table : List Entry) (group : ActiveGroup) (place : ℕ) (penalty : ℤ) : Type 0 where
   pub wide : length row ≡ slots first_lines
   pub rises : group.start ≤ group.end
   pub within : group.end ≤ length table
-  pub earlier : group.place < tried.place
-  pub places : tried.place ≤ max_places
+  pub earlier : group.place < place
+  pub places : place ≤ max_places
   pub entries : IsOf first_lines table group
-  pub penalty : tried.penalty <ℤ pos 10000
-  pub small : IsSmallSums tried.sums
+  pub penalty_bounded : penalty <ℤ pos 10000
 
 -- The offer of an entry for a place by a line, if no lines are counted: the line with the demerits for the class of the line before it.
 abbrev pub offer_from : Params → Entry → (index place : ℕ) → (alone : LineCost) → Entry

@@ -1,20 +1,23 @@
-use Rattle.std.proofs.Common.{◌≡◌, ◌∙◌, ◌+◌, ◌-◌, ◌≤◌, ◌<◌, ◌++◌, [], ◌∷◌, Some, None, Bool, true, false, ℕ, cond, length, length-set, take, drop, set, to_z, of_z, w32, w64, refl, ap, sym, subst, arith}
-use Rattle.std.specs.Prelude.{slice_get, ◌&&◌}
+use Rattle.std.proofs.Common.{◌≡◌, ◌∙◌, ◌+◌, ◌-◌, ◌≤◌, ◌<◌, ◌++◌, [], ◌∷◌, Some, None, Bool, true, false, ℕ, cond, length, length-set, take, drop, set, to_z, of_z, w32, w64, refl, ap, sym, subst, rules, arith}
+use Rattle.std.specs.Prelude.{slice_get, vec_len, ◌&&◌}
 use Rattle.std.proofs.Math.Logic.{◌⊎◌, inl, inr}
 use Rattle.std.proofs.lemmas.Bool.{cases_Bool, cond-true, cond-false}
 use Rattle.std.proofs.lemmas.Int.{ints}
 use Rattle.std.proofs.lemmas.List.{length-replicate, take-set-le, drop-map}
-use Rattle.std.proofs.lemmas.Option.{slice_get_read}
+use Rattle.std.proofs.lemmas.Option.{same_Some, slice_get_read, slice_get_within}
 use Rattle.break_lines.specs.Sizes.{least_width, fits_of_sums}
 use Rattle.break_core.specs.declared.active_list.Live.{Live}
 use Rattle.break_core.specs.Trials.{is_overfull}
 use Rattle.break_core.specs.Private.LeftOut.{is_long, is_more, kept_over}
-use Rattle.break_core.specs.Private.Active.{stops_after, stops_at, problem_leaving_out, groups_of, AreOver, HaveBest, IsNext, IsActive, AreLoosest, CostLoosest, CanAllWait, IsOfferingWaiting}
+use Rattle.break_core.specs.Private.Active.{stops_after, stops_at, problem_leaving_out, groups_of, AreOver, HasBest, HaveBest, IsNext, IsActive, AreLoosest, CostLoosest, CanAllWait, IsOfferingWaiting}
 use Rattle.break_lines.specs.Tables.{slots, IsRow}
 use Rattle.break_lines.proofs.Rows.{row_empty}
 use Rattle.break_lines.proofs.Entries.{get-set_same, get-set_other}
+use Rattle.break_core.specs.Private.Filling.{CanOffer, IsOfferingUnless}
+use Rattle.break_core.specs.Private.Offers.{row_at}
+use Rattle.break_core.proofs.Offers.{row_none, offers_none, same_row, same_rows}
 use Rattle.break_core.proofs.Filled.{group_of}
-use Rattle.break_core.proofs.Overfull.{overfull_of, both_true}
+use Rattle.break_core.proofs.Overfull.{overfull_of}
 use Rattle.break_core.proofs.Stopping.{long_found, over_found, line_leaving_out, stopped_is, goes_on, stopped_silent}
 use Rattle.break_core.proofs.Lives.{group_at, groups_kept, over_kept, best_kept, next_live, from_first, none_between, both_parts, parts_long}
 use Rattle.break_core.proofs.Active.{row_silent, front_more, IsFront}
@@ -25,62 +28,106 @@ use Rattle.break_core.proofs.filling.try_lines.Goals as goal
 pub try_line-sums-requires-clause-later : goal.try_line-sums-requires-clause-later
 try_line-sums-requires-clause-later g c =
     let inv = c.loop-index.invariant in
-    let rules_now = c.args.rules.now in
+    let rules_now = c.args.at.now.rules.now in
     let f = g.M.Meter.facts c.args.meter.now in
-    let table = c.args.table.now in
+    let table = c.args.at.now.table.now in
     let lives = c.args.lives.now.list.items in
     let index = c.loop-index.index in
     let live = c.index-live.result.now in
     let within : index < length c.loop-index.lives.list.items = omega (arith, c.loop-index-test.true, inv.end_bounded, inv.count) in
     let here : slice_get lives index ≡ Some live =
     sym (inv.rest index (omega arith)) ∙ slice_get_read c.loop-index.lives.list.items (length c.loop-index.lives.list.items) index live refl within c.index-live.ensures in
-    let both = next_live f rules_now.params.now rules_now.bound rules_now.stop_rule table c.args.place inv.at inv.low lives index live here inv.live in
+    let both = next_live f rules_now.params.now rules_now.bound rules_now.stop_rule table c.args.at.now.place inv.at inv.low lives index live here inv.live in
     let next = both.0 in
     next.group.earlier
 
 pub try_line-sums-requires-clause-trials_bounded : goal.try_line-sums-requires-clause-trials_bounded
 try_line-sums-requires-clause-trials_bounded g c =
     let inv = c.loop-index.invariant in
-    let rules_now = c.args.rules.now in
+    let rules_now = c.args.at.now.rules.now in
     let f = g.M.Meter.facts c.args.meter.now in
-    let table = c.args.table.now in
+    let table = c.args.at.now.table.now in
     let lives = c.args.lives.now.list.items in
     let index = c.loop-index.index in
     let live = c.index-live.result.now in
     let within : index < length c.loop-index.lives.list.items = omega (arith, c.loop-index-test.true, inv.end_bounded, inv.count) in
     let here : slice_get lives index ≡ Some live =
     sym (inv.rest index (omega arith)) ∙ slice_get_read c.loop-index.lives.list.items (length c.loop-index.lives.list.items) index live refl within c.index-live.ensures in
-    let both = next_live f rules_now.params.now rules_now.bound rules_now.stop_rule table c.args.place inv.at inv.low lives index live here inv.live in
+    let both = next_live f rules_now.params.now rules_now.bound rules_now.stop_rule table c.args.at.now.place inv.at inv.low lives index live here inv.live in
     let next = both.0 in
     omega (arith, c.requires.trials_bounded live.group.place, inv.fresh live.group.place next.later)
 
-pub offer_line-judgement-requires : goal.offer_line-judgement-requires
-offer_line-judgement-requires g c =
+pub index-requires : goal.index-requires
+index-requires g c =
     let inv = c.loop-index.invariant in
-    let rules_now = c.args.rules.now in
+    let rules_now = c.args.at.now.rules.now in
     let f = g.M.Meter.facts c.args.meter.now in
-    let table = c.args.table.now in
+    let table = c.args.at.now.table.now in
     let lives = c.args.lives.now.list.items in
     let index = c.loop-index.index in
     let live = c.index-live.result.now in
     let within : index < length c.loop-index.lives.list.items = omega (arith, c.loop-index-test.true, inv.end_bounded, inv.count) in
     let here : slice_get lives index ≡ Some live =
     sym (inv.rest index (omega arith)) ∙ slice_get_read c.loop-index.lives.list.items (length c.loop-index.lives.list.items) index live refl within c.index-live.ensures in
-    let both = next_live f rules_now.params.now rules_now.bound rules_now.stop_rule table c.args.place inv.at inv.low lives index live here inv.live in
+    let both = next_live f rules_now.params.now rules_now.bound rules_now.stop_rule table c.args.at.now.place inv.at inv.low lives index live here inv.live in
     let next = both.0 in
+    let items = c.loop-index.lives.list.items in
+    let overfull = c.is_overfull-overfull.result in
+    let at_index = slice_get_read items (length items) index live refl within c.index-live.ensures in
+    let kept : Live = record { group = live.group; over = kept_over live.over overfull (to_z w64 (of_z w64 c.least_width-width.result)); best = live.best } in
+    let marked : c.keep_over.new.lives.items ≡ set items index kept = c.keep_over.ensures live at_index in
+    let present : slice_get c.keep_over.new.lives.items index ≡ Some kept =
+    ap (λ xs. slice_get xs index) marked ∙ get-set_same items index kept live at_index in
+    let inside : index < length c.keep_over.new.lives.items = slice_get_within c.keep_over.new.lives.items index kept present in
+    let size : vec_len c.keep_over.new.lives ≡ length c.keep_over.new.lives.items = search rules in
+    omega (arith, inside, size)
+
+pub offer_line-now-requires : goal.offer_line-now-requires
+offer_line-now-requires g c =
+    let inv = c.loop-index.invariant in
+    let rules_now = c.args.at.now.rules.now in
+    let f = g.M.Meter.facts c.args.meter.now in
+    let table = c.args.at.now.table.now in
+    let lives = c.args.lives.now.list.items in
+    let index = c.loop-index.index in
+    let live = c.index-live.result.now in
+    let within : index < length c.loop-index.lives.list.items = omega (arith, c.loop-index-test.true, inv.end_bounded, inv.count) in
+    let here : slice_get lives index ≡ Some live =
+    sym (inv.rest index (omega arith)) ∙ slice_get_read c.loop-index.lives.list.items (length c.loop-index.lives.list.items) index live refl within c.index-live.ensures in
+    let both = next_live f rules_now.params.now rules_now.bound rules_now.stop_rule table c.args.at.now.place inv.at inv.low lives index live here inv.live in
+    let next = both.0 in
+    let items = c.loop-index.lives.list.items in
+    let overfull = c.is_overfull-overfull.result in
+    let at_index = slice_get_read items (length items) index live refl within c.index-live.ensures in
+    let kept : Live = record { group = live.group; over = kept_over live.over overfull (to_z w64 (of_z w64 c.least_width-width.result)); best = live.best } in
+    let marked : c.keep_over.new.lives.items ≡ set items index kept = c.keep_over.ensures live at_index in
+    let present : slice_get c.keep_over.new.lives.items index ≡ Some kept =
+    ap (λ xs. slice_get xs index) marked ∙ get-set_same items index kept live at_index in
+    let found = c.index.result.now in
+    let inside : index < length c.keep_over.new.lives.items = slice_get_within c.keep_over.new.lives.items index kept present in
+    let same_live : kept ≡ found =
+    same_Some kept found (sym present ∙ slice_get_read c.keep_over.new.lives.items (length c.keep_over.new.lives.items) index found refl inside c.index.ensures) in
+    let params = rules_now.params.now in
+    let place = c.args.at.now.place in
+    let penalty = c.args.at.now.penalty in
+    let row = row_at params.first_lines table place c.loop-index.row in
     record {
-      can = record {
-        wide = inv.wide;
-        rises = next.group.rises;
-        within = next.group.within;
-        earlier = next.group.earlier;
-        places = c.requires.places;
-        entries = group_of (problem_leaving_out f rules_now.params.now rules_now.bound rules_now.stop_rule) table c.args.place live.group c.requires.filled.is_table next.group;
-        penalty = omega (arith, ints, c.place-at.ensures.penalty_bounded);
-        small = c.try_line-sums.ensures.sums_bounded;
-      };
-      best = c.requires.best (index - c.args.lives.now.first) live
-          (from_first lives c.args.lives.now.first (index - c.args.lives.now.first) index live (omega (arith, inv.begun)) here);
+      kind = c.requires.kind;
+      can = subst (λ (x : Live). CanOffer params.first_lines row table x.group place penalty) same_live
+          (record {
+            wide = inv.wide;
+            rises = next.group.rises;
+            within = next.group.within;
+            earlier = next.group.earlier;
+            places = c.requires.places;
+            entries = group_of (problem_leaving_out f params rules_now.bound rules_now.stop_rule) table place live.group c.requires.filled.is_table next.group;
+            penalty_bounded = c.requires.penalty_bounded;
+          });
+      judged = c.judge-line.ensures.judged;
+      best = subst (HasBest table params) same_live
+          (c.requires.best (index - c.args.lives.now.first) live
+          (from_first lives c.args.lives.now.first (index - c.args.lives.now.first) index live (omega (arith, inv.begun)) here));
+      held = inv.held;
     }
 
 pub keep_over-requires : goal.keep_over-requires
@@ -90,7 +137,7 @@ pub keep_group-kept-requires : goal.keep_group-kept-requires
 keep_group-kept-requires g c =
     let items = c.loop-index.lives.list.items in
     let live = c.index-live.result.now in
-    let overfull = c.offer_line-judgement.result.overfull in
+    let overfull = c.is_overfull-overfull.result in
     let within : c.loop-index.index < length items = omega (arith, c.loop-index-test.true, c.loop-index.invariant.end_bounded, c.loop-index.invariant.count) in
     let at_index = slice_get_read items (length items) c.loop-index.index live refl within c.index-live.ensures in
     let kept : Live =
@@ -104,16 +151,16 @@ keep_group-kept-requires g c =
 pub loop-index-preserved : goal.loop-index-preserved
 loop-index-preserved g c =
     let inv = c.loop-index.invariant in
-    let rules_now = c.args.rules.now in
+    let rules_now = c.args.at.now.rules.now in
     let f = g.M.Meter.facts c.args.meter.now in
-    let table = c.args.table.now in
+    let table = c.args.at.now.table.now in
     let lives = c.args.lives.now.list.items in
     let index = c.loop-index.index in
     let live = c.index-live.result.now in
     let within : index < length c.loop-index.lives.list.items = omega (arith, c.loop-index-test.true, inv.end_bounded, inv.count) in
     let here : slice_get lives index ≡ Some live =
     sym (inv.rest index (omega arith)) ∙ slice_get_read c.loop-index.lives.list.items (length c.loop-index.lives.list.items) index live refl within c.index-live.ensures in
-    let both = next_live f rules_now.params.now rules_now.bound rules_now.stop_rule table c.args.place inv.at inv.low lives index live here inv.live in
+    let both = next_live f rules_now.params.now rules_now.bound rules_now.stop_rule table c.args.at.now.place inv.at inv.low lives index live here inv.live in
     let next = both.0 in
     let params = rules_now.params.now in
     let rule = rules_now.stop_rule in
@@ -123,24 +170,25 @@ loop-index-preserved g c =
     let groups = groups_of lives in
     let group = live.group in
     let h = g.M.Meter.facts c.loop-index.meter in
-    let sums = c.try_line-sums.result in
+    let sums = c.judge-line.result.sums in
+    let is_sums = c.judge-line.ensures.sums ∙ c.try_line-sums.ensures.sums in
     let line = fits_of_sums params sums in
     let width = to_z w64 (of_z w64 c.least_width-width.result) in
     let exact : to_z w64 (of_z w64 c.least_width-width.result) ≡ c.least_width-width.result = omega (arith, ints) in
-    let is_width : to_z w64 (of_z w64 c.least_width-width.result) ≡ least_width c.try_line-sums.result = exact ∙ c.least_width-width.ensures in
-    let overfull = c.offer_line-judgement.result.overfull in
+    let is_width : to_z w64 (of_z w64 c.least_width-width.result) ≡ least_width sums =
+    exact ∙ c.least_width-width.ensures ∙ ap least_width (sym c.judge-line.ensures.sums) in
+    let overfull = c.is_overfull-overfull.result in
     let long = is_more live.over width in
     let first = c.args.lives.now.first in
     let there : slice_get (drop first lives) (index - first) ≡ Some live = from_first lives first (index - first) index live (omega (arith, inv.begun)) here in
     let over = c.requires.over (index - first) live there in
-    let penalty : to_z w32 (of_z w32 c.place-at.result.penalty) ≡ c.place-at.result.penalty = omega (arith, ints) in
-    let is_over : overfull ≡ is_overfull f params group.place c.args.place =
-    c.offer_line-judgement.ensures.overfull ∙ overfull_of f h params group.place c.args.place sums line refl c.try_line-sums.ensures.sums inv.facts in
-    let is_long_line : long ≡ is_long f params group.place c.args.place =
-    long_found f h params group.place c.args.place sums live.over width long refl over is_width
-    c.try_line-sums.ensures.sums inv.facts in
-    let tried = line_leaving_out f h params bound rule group c.args.place (to_z w32 (of_z w32 c.place-at.result.penalty)) sums line c.leaves_out-left_out.result long
-    (penalty ∙ c.place-at.ensures.penalty) refl c.try_line-sums.ensures.sums inv.facts c.leaves_out-left_out.ensures is_long_line in
+    let is_over : overfull ≡ is_overfull f params group.place c.args.at.now.place =
+    c.is_overfull-overfull.ensures ∙ overfull_of f h params group.place c.args.at.now.place sums line refl is_sums inv.facts in
+    let is_long_line : long ≡ is_long f params group.place c.args.at.now.place =
+    long_found f h params group.place c.args.at.now.place sums live.over width long refl over is_width
+    is_sums inv.facts in
+    let tried = line_leaving_out f h params bound rule group c.args.at.now.place c.args.at.now.penalty sums line c.leaves_out-left_out.result long
+    c.requires.penalty refl is_sums inv.facts c.leaves_out-left_out.ensures is_long_line in
     let stopped : c.stops_after-stopped.result ≡ stops_after rule overfull long =
     c.stops_after-stopped.ensures ∙ ap (stops_after rule overfull) c.leaves_out-left_out.ensures ∙ stopped_is rule overfull long in
     let items = c.loop-index.lives.list.items in
@@ -150,6 +198,10 @@ loop-index-preserved g c =
     let marked : c.keep_over.new.lives.items ≡ set items index kept = c.keep_over.ensures live at_index in
     let present : slice_get c.keep_over.new.lives.items index ≡ Some kept =
     ap (λ xs. slice_get xs index) marked ∙ get-set_same items index kept live at_index in
+    let found = c.index.result.now in
+    let inside : index < length c.keep_over.new.lives.items = slice_get_within c.keep_over.new.lives.items index kept present in
+    let same_live : kept ≡ found =
+    same_Some kept found (sym present ∙ slice_get_read c.keep_over.new.lives.items (length c.keep_over.new.lives.items) index found refl inside c.index.ensures) in
     let passed = c.loop-index.lives.first in
     let old = drop passed (take c.loop-index.kept items) in
     let new = drop c.keep_group-kept.new.lives.first (take c.keep_group-kept.result c.keep_group-kept.new.lives.list.items) in
@@ -158,9 +210,10 @@ loop-index-preserved g c =
     let made : new ≡ cond c.stops_after-stopped.result old (old ++ kept ∷ []) =
     c.keep_group-kept.ensures.front kept present ∙ ap (λ xs. cond c.stops_after-stopped.result (drop passed xs) (drop passed xs ++ kept ∷ [])) same_front in
     record {
-      wide = c.offer_line-judgement.ensures.wide;
+      wide = c.offer_line-now.ensures.wide;
+      held = c.offer_line-now.ensures.held;
       facts = c.try_line-sums.ensures.facts ∙ inv.facts;
-      swept = swept_more stop c.args.place inv.low group.place (g.M.Meter.trials c.args.meter.now) (g.M.Meter.trials c.loop-index.meter)
+      swept = swept_more stop c.args.at.now.place inv.low group.place (g.M.Meter.trials c.args.meter.now) (g.M.Meter.trials c.loop-index.meter)
           (g.M.Meter.trials c.try_line-sums.new.self) inv.swept inv.fresh next.later next.group.earlier next.not_stopped c.try_line-sums.ensures.counted
           c.try_line-sums.ensures.others;
       kept = kept_more group.place (g.M.Meter.trials c.args.meter.now) (g.M.Meter.trials c.loop-index.meter) (g.M.Meter.trials c.try_line-sums.new.self) inv.kept
@@ -173,21 +226,23 @@ loop-index-preserved g c =
       fresh = fresh_more inv.low group.place (g.M.Meter.trials c.args.meter.now) (g.M.Meter.trials c.loop-index.meter)
           (g.M.Meter.trials c.try_line-sums.new.self) inv.fresh next.later c.try_line-sums.ensures.others;
       live = both.1;
-      row = c.offer_line-judgement.ensures.row p refl next.group.since tried
-          (row_silent p table c.args.place inv.at group.start c.loop-index.row.items next.gap c.requires.last next.silent inv.row);
+      row = subst (λ (x : Live). IsOfferingUnless c.leaves_out-left_out.result table params bound x.group c.args.at.now.place c.args.at.now.penalty line
+          (row_at params.first_lines table c.args.at.now.place c.loop-index.row) (row_at params.first_lines table c.args.at.now.place c.offer_line-now.new.row))
+          (sym same_live) c.offer_line-now.ensures.row p refl next.group.since tried
+          (row_silent p table c.args.at.now.place inv.at group.start (row_at params.first_lines table c.args.at.now.place c.loop-index.row) next.gap c.requires.last next.silent inv.row);
       begun = omega (arith, inv.begun);
       first_bounded = c.keep_group-kept.ensures.first_bounded;
       kept_bounded = c.keep_group-kept.ensures.result_bounded;
       count = c.keep_group-kept.ensures.count ∙ ap length marked ∙ length-set items index kept ∙ inv.count;
       rest = λ k after. c.keep_group-kept.ensures.rest k (omega (arith, inv.kept_bounded)) ∙ ap (λ xs. slice_get xs k) marked
           ∙ get-set_other items index k kept (λ same. omega (arith, same)) ∙ inv.rest k (omega arith);
-      front = front_more p stop table c.args.place c.args.place inv.at inv.low (groups_of old) (groups_of new) group c.stops_after-stopped.result inv.front next
-          (goes_on f params rule group.place c.args.place overfull long c.stops_after-stopped.result stopped is_over is_long_line)
-          (stopped_silent f params bound table c.args.place group rule overfull long c.stops_after-stopped.result stopped is_over is_long_line c.requires.may next.group)
+      front = front_more p stop table c.args.at.now.place c.args.at.now.place inv.at inv.low (groups_of old) (groups_of new) group c.stops_after-stopped.result inv.front next
+          (goes_on f params rule group.place c.args.at.now.place overfull long c.stops_after-stopped.result stopped is_over is_long_line)
+          (stopped_silent f params bound table c.args.at.now.place group rule overfull long c.stops_after-stopped.result stopped is_over is_long_line c.requires.may next.group)
           (groups_kept c.stops_after-stopped.result old new kept made);
-      over = over_kept f params (c.args.place + 1) c.stops_after-stopped.result old new kept inv.over
-          (over_found f h params group.place c.args.place sums live.over next_over width overfull next.group.earlier
-          refl over is_over is_width c.try_line-sums.ensures.sums inv.facts)
+      over = over_kept f params (c.args.at.now.place + 1) c.stops_after-stopped.result old new kept inv.over
+          (over_found f h params group.place c.args.at.now.place sums live.over next_over width overfull next.group.earlier
+          refl over is_over is_width is_sums inv.facts)
           made;
       best = best_kept table params c.stops_after-stopped.result old new kept inv.best (c.requires.best (index - first) live there) made;
       index_bounded = next_bounded (cases_Bool both_wait);
@@ -196,14 +251,11 @@ loop-index-preserved g c =
       waits = waits (cases_Bool both_wait);
       untouched = λ none.
           let neither = c.either-offered.ensures none in
-          c.offer_line-judgement.ensures.untouched neither.1 ∙ inv.untouched neither.0;
+          same_rows c.args.row.now c.loop-index.row c.offer_line-now.new.row (inv.untouched neither.0) (c.offer_line-now.ensures.untouched neither.1);
     }
   where
-    loosest : Bool
-    loosest = c.offer_line-judgement.result.loosest
-
     both_wait : Bool
-    both_wait = loosest && c.args.rules.now.waits
+    both_wait = c.all_wait.result
 
     end : ℕ
     end = c.first_waiting-end.result
@@ -233,46 +285,48 @@ loop-index-preserved g c =
     place = c.index-live.result.now.group.place
 
     next :
-        IsNext (problem_leaving_out (g.M.Meter.facts c.args.meter.now) c.args.rules.now.params.now c.args.rules.now.bound c.args.rules.now.stop_rule)
-        (stops_at (g.M.Meter.facts c.args.meter.now) c.args.rules.now.params.now c.args.rules.now.stop_rule) c.args.table.now c.args.place
+        IsNext (problem_leaving_out (g.M.Meter.facts c.args.meter.now) c.args.at.now.rules.now.params.now c.args.at.now.rules.now.bound c.args.at.now.rules.now.stop_rule)
+        (stops_at (g.M.Meter.facts c.args.meter.now) c.args.at.now.rules.now.params.now c.args.at.now.rules.now.stop_rule) c.args.at.now.table.now c.args.at.now.place
         c.loop-index.invariant.at c.loop-index.invariant.low c.index-live.result.now.group
     next =
         let inv = c.loop-index.invariant in
-        let rules_now = c.args.rules.now in
+        let rules_now = c.args.at.now.rules.now in
         let index = c.loop-index.index in
         let live = c.index-live.result.now in
         let within : index < length c.loop-index.lives.list.items = omega (arith, c.loop-index-test.true, inv.end_bounded, inv.count) in
         let here : slice_get c.args.lives.now.list.items index ≡ Some live =
         sym (inv.rest index (omega arith))
         ∙ slice_get_read c.loop-index.lives.list.items (length c.loop-index.lives.list.items) index live refl within c.index-live.ensures in
-        (next_live (g.M.Meter.facts c.args.meter.now) rules_now.params.now rules_now.bound rules_now.stop_rule c.args.table.now c.args.place inv.at inv.low
+        (next_live (g.M.Meter.facts c.args.meter.now) rules_now.params.now rules_now.bound rules_now.stop_rule c.args.at.now.table.now c.args.at.now.place inv.at inv.low
         c.args.lives.now.list.items index live here inv.live).0
 
     waits :
         (both_wait ≡ true) ⊎ (both_wait ≡ false)
         → (length c.args.lives.now.list.items ≤ end)
-        ⊎ AreLoosest (g.M.Meter.facts c.args.meter.now) c.args.rules.now.params.now c.args.rules.now.bound (place + 1) c.args.place
+        ⊎ AreLoosest (g.M.Meter.facts c.args.meter.now) c.args.at.now.rules.now.params.now c.args.at.now.rules.now.bound (place + 1) c.args.at.now.place
     waits (inl is) =
-        let both = both_true loosest c.args.rules.now.waits is in
-        inr (later_loosest (g.M.Meter.facts c.args.meter.now) (g.M.Meter.facts c.loop-index.meter) c.args.rules.now.params.now c.args.rules.now.bound
-        place c.args.place c.try_line-sums.result (c.requires.waits both.1) next.group.earlier c.requires.last c.try_line-sums.ensures.sums
-        c.loop-index.invariant.facts (c.offer_line-judgement.ensures.uncounted both.0) (c.offer_line-judgement.ensures.loosest both.0))
+        inr (later_loosest (g.M.Meter.facts c.args.meter.now) (g.M.Meter.facts c.loop-index.meter) c.args.at.now.rules.now.params.now
+        c.args.at.now.rules.now.bound place c.args.at.now.place c.judge-line.result.sums (c.requires.waits (c.all_wait.ensures.waits is)) next.group.earlier
+        c.requires.last (c.judge-line.ensures.sums ∙ c.try_line-sums.ensures.sums) c.loop-index.invariant.facts (c.all_wait.ensures.uncounted is)
+        (c.all_wait.ensures.loosest is))
     waits (inr is) =
         subst (λ n. (length c.args.lives.now.list.items ≤ n)
-        ⊎ AreLoosest (g.M.Meter.facts c.args.meter.now) c.args.rules.now.params.now c.args.rules.now.bound (place + 1) c.args.place) (sym (goes is))
-        (wait_from (g.M.Meter.facts c.args.meter.now) c.args.rules.now.params.now c.args.rules.now.bound c.loop-index.invariant.low (place + 1)
-        c.args.place c.args.lives.now.list.items c.loop-index.end (omega (arith, next.later)) c.loop-index.invariant.waits)
+        ⊎ AreLoosest (g.M.Meter.facts c.args.meter.now) c.args.at.now.rules.now.params.now c.args.at.now.rules.now.bound (place + 1) c.args.at.now.place) (sym (goes is))
+        (wait_from (g.M.Meter.facts c.args.meter.now) c.args.at.now.rules.now.params.now c.args.at.now.rules.now.bound c.loop-index.invariant.low (place + 1)
+        c.args.at.now.place c.args.lives.now.list.items c.loop-index.end (omega (arith, next.later)) c.loop-index.invariant.waits)
 
 pub loop-index-init : goal.loop-index-init
 loop-index-init g c =
     let f = g.M.Meter.facts c.args.meter.now in
-    let rules_now = c.args.rules.now in
+    let rules_now = c.args.at.now.rules.now in
     let p = problem_leaving_out f rules_now.params.now rules_now.bound rules_now.stop_rule in
     let items = c.args.lives.now.list.items in
     let first = c.args.lives.now.first in
     let none : drop first (take first items) ≡ [] = none_between first items c.requires.first_bounded in
+    let empty = row_none rules_now.params.now.first_lines c.args.at.now.table.now c.args.at.now.place c.args.row.now c.requires.empty in
     record {
-      wide = ap length c.requires.empty ∙ length-replicate (slots rules_now.params.now.first_lines) None;
+      wide = ap length empty ∙ length-replicate (slots rules_now.params.now.first_lines) None;
+      held = offers_none rules_now.params.now.first_lines c.args.at.now.table.now c.args.at.now.place c.args.row.now c.requires.empty;
       facts = refl;
       swept = λ a. inl (omega arith);
       kept = kept_none (g.M.Meter.trials c.args.meter.now);
@@ -280,50 +334,51 @@ loop-index-init g c =
       at = 0;
       low = 0;
       fresh = λ a less. omega arith;
-      live = subst (IsActive p (stops_at f rules_now.params.now rules_now.stop_rule) c.args.table.now c.args.place c.args.place 0 0)
+      live = subst (IsActive p (stops_at f rules_now.params.now rules_now.stop_rule) c.args.at.now.table.now c.args.at.now.place c.args.at.now.place 0 0)
           (sym (drop-map (λ (x : Live). x.group) first items)) c.requires.filled.is_active;
-      row = subst (IsRow p c.args.table.now c.args.place 0) (sym c.requires.empty) (row_empty p c.args.table.now c.args.place);
+      row = subst (IsRow p c.args.at.now.table.now c.args.at.now.place 0) (sym empty) (row_empty p c.args.at.now.table.now c.args.at.now.place);
       begun = omega arith;
       first_bounded = omega arith;
       kept_bounded = omega arith;
       count = refl;
       rest = λ k less. refl;
-      front = subst (λ xs. IsFront p (stops_at f rules_now.params.now rules_now.stop_rule) c.args.table.now c.args.place c.args.place 0 0 (groups_of xs)) (sym none)
+      front = subst (λ xs. IsFront p (stops_at f rules_now.params.now rules_now.stop_rule) c.args.at.now.table.now c.args.at.now.place c.args.at.now.place 0 0 (groups_of xs)) (sym none)
           (λ rest free active. active);
-      over = subst (AreOver f rules_now.params.now (c.args.place + 1)) (sym none) (λ k x there. absurd (cc));
-      best = subst (HaveBest c.args.table.now rules_now.params.now) (sym none) (λ k x there. absurd (cc));
+      over = subst (AreOver f rules_now.params.now (c.args.at.now.place + 1)) (sym none) (λ k x there. absurd (cc));
+      best = subst (HaveBest c.args.at.now.table.now rules_now.params.now) (sym none) (λ k x there. absurd (cc));
       index_bounded = omega (arith, c.len-end.ensures, c.requires.first_bounded);
       end_bounded = omega (arith, c.len-end.ensures);
       begins = inl (omega (arith, c.len-end.ensures));
       waits = inl (omega (arith, c.len-end.ensures));
-      untouched = λ none. refl;
+      untouched = λ _. same_row c.args.row.now;
     }
 
 pub offer_waiting-waiting-requires : goal.offer_waiting-waiting-requires
 offer_waiting-waiting-requires g c =
     let inv = c.loop-index.invariant in
     let f = g.M.Meter.facts c.args.meter.now in
-    let rules_now = c.args.rules.now in
+    let rules_now = c.args.at.now.rules.now in
     let params = rules_now.params.now in
     let p = problem_leaving_out f params rules_now.bound rules_now.stop_rule in
     let stop = stops_at f params rules_now.stop_rule in
-    let table = c.args.table.now in
+    let table = c.args.at.now.table.now in
     let now = c.loop-index.lives.list.items in
     let last : c.loop-index.index ≡ c.loop-index.end = omega (arith, c.loop-index-test.false, inv.index_bounded) in
-    let waiting = rest_waits f params rules_now.bound rules_now.stop_rule table c.args.place inv.at inv.low c.args.lives.now.first c.loop-index.index c.loop-index.end
+    let waiting = rest_waits f params rules_now.bound rules_now.stop_rule table c.args.at.now.place inv.at inv.low c.args.lives.now.first c.loop-index.index c.loop-index.end
     c.args.lives.now.list.items now inv.begun last inv.count inv.rest inv.waits c.requires.over c.requires.best inv.live in
     let slice : c.rest_of.result.now ≡ drop c.loop-index.end now = c.rest_of.ensures ∙ ap (drop c.loop-index.end) c.deref.ensures.value in
     record {
       can = record {
         wide = inv.wide;
         uncounted = λ some. waiting.uncounted (subst (λ xs. 0 < length xs) slice some);
-        each = subst (CanAllWait 0 table c.args.place) (sym slice)
-            (can_uncounted params.first_lines table c.args.place (drop c.loop-index.end now) waiting.uncounted
-            (can_wait p stop table c.args.place c.args.place inv.at inv.low (drop c.loop-index.end now) c.requires.filled.is_table waiting.active));
+        each = subst (CanAllWait 0 table c.args.at.now.place) (sym slice)
+            (can_uncounted params.first_lines table c.args.at.now.place (drop c.loop-index.end now) waiting.uncounted
+            (can_wait p stop table c.args.at.now.place c.args.at.now.place inv.at inv.low (drop c.loop-index.end now) c.requires.filled.is_table waiting.active));
         best = subst (HaveBest table params) (sym slice) waiting.best;
         places = c.requires.places;
       };
-      penalty = omega (arith, ints, c.place-at.ensures.penalty_bounded);
+      penalty = c.requires.penalty_bounded;
+      held = inv.held;
     }
 
 pub remove_groups-requires : goal.remove_groups-requires
@@ -338,39 +393,38 @@ pub returns-clause-row : goal.returns-clause-row
 returns-clause-row g c =
     let inv = c.loop-index.invariant in
     let f = g.M.Meter.facts c.args.meter.now in
-    let rules_now = c.args.rules.now in
+    let rules_now = c.args.at.now.rules.now in
     let params = rules_now.params.now in
     let bound = rules_now.bound in
     let rule = rules_now.stop_rule in
     let p = problem_leaving_out f params bound rule in
     let stop = stops_at f params rule in
-    let table = c.args.table.now in
-    let place = c.args.place in
+    let table = c.args.at.now.table.now in
+    let place = c.args.at.now.place in
     let now = c.loop-index.lives.list.items in
     let last : c.loop-index.index ≡ c.loop-index.end = omega (arith, c.loop-index-test.false, inv.index_bounded) in
     let waiting = rest_waits f params bound rule table place inv.at inv.low c.args.lives.now.first c.loop-index.index c.loop-index.end
     c.args.lives.now.list.items now inv.begun last inv.count inv.rest inv.waits c.requires.over c.requires.best inv.live in
     let slice : c.rest_of.result.now ≡ drop c.loop-index.end now = c.rest_of.ensures ∙ ap (drop c.loop-index.end) c.deref.ensures.value in
-    let penalty : to_z w32 (of_z w32 c.place-at.result.penalty) ≡ f.penalty place =
-    omega (arith, ints, c.place-at.ensures.penalty) in
     let costs : CostLoosest p params bound (f.penalty place) place (groups_of (drop c.loop-index.end now)) =
     costs_waiting f params bound rule table place place inv.at inv.low (groups_of (drop c.loop-index.end now)) c.requires.may c.requires.last waiting.wait waiting.active in
-    let offered : IsOfferingWaiting table params bound (drop c.loop-index.end now) place (f.penalty place) c.loop-index.row.items c.offer_waiting-waiting.new.row.items =
-    subst (λ n. IsOfferingWaiting table params bound (drop c.loop-index.end now) place n c.loop-index.row.items c.offer_waiting-waiting.new.row.items) penalty
-    (subst (λ xs. IsOfferingWaiting table params bound xs place (to_z w32 (of_z w32 c.place-at.result.penalty)) c.loop-index.row.items c.offer_waiting-waiting.new.row.items) slice
-    c.offer_waiting-waiting.ensures.row) in
+    let old = row_at params.first_lines table place c.loop-index.row in
+    let new = row_at params.first_lines table place c.offer_waiting-waiting.new.row in
+    let offered : IsOfferingWaiting table params bound (drop c.loop-index.end now) place (f.penalty place) old new =
+    subst (λ n. IsOfferingWaiting table params bound (drop c.loop-index.end now) place n old new) c.requires.penalty
+    (subst (λ xs. IsOfferingWaiting table params bound xs place c.args.at.now.penalty old new) slice c.offer_waiting-waiting.ensures.row) in
     offered p stop inv.at inv.low refl c.requires.last costs waiting.active inv.row
 
 pub returns-clause-live : goal.returns-clause-live
 returns-clause-live g c = λ free.
     let inv = c.loop-index.invariant in
     let f = g.M.Meter.facts c.args.meter.now in
-    let rules_now = c.args.rules.now in
+    let rules_now = c.args.at.now.rules.now in
     let params = rules_now.params.now in
     let bound = rules_now.bound in
     let rule = rules_now.stop_rule in
-    let table = c.args.table.now in
-    let place = c.args.place in
+    let table = c.args.at.now.table.now in
+    let place = c.args.at.now.place in
     let now = c.loop-index.lives.list.items in
     let last : c.loop-index.index ≡ c.loop-index.end = omega (arith, c.loop-index-test.false, inv.index_bounded) in
     let waiting = rest_waits f params bound rule table place inv.at inv.low c.args.lives.now.first c.loop-index.index c.loop-index.end
@@ -386,12 +440,12 @@ pub returns-clause-over : goal.returns-clause-over
 returns-clause-over g c =
     let inv = c.loop-index.invariant in
     let f = g.M.Meter.facts c.args.meter.now in
-    let rules_now = c.args.rules.now in
+    let rules_now = c.args.at.now.rules.now in
     let params = rules_now.params.now in
     let bound = rules_now.bound in
     let rule = rules_now.stop_rule in
-    let table = c.args.table.now in
-    let place = c.args.place in
+    let table = c.args.at.now.table.now in
+    let place = c.args.at.now.place in
     let now = c.loop-index.lives.list.items in
     let last : c.loop-index.index ≡ c.loop-index.end = omega (arith, c.loop-index-test.false, inv.index_bounded) in
     let waiting = rest_waits f params bound rule table place inv.at inv.low c.args.lives.now.first c.loop-index.index c.loop-index.end
@@ -406,11 +460,11 @@ pub returns-clause-best : goal.returns-clause-best
 returns-clause-best g c =
     let inv = c.loop-index.invariant in
     let f = g.M.Meter.facts c.args.meter.now in
-    let rules_now = c.args.rules.now in
+    let rules_now = c.args.at.now.rules.now in
     let now = c.loop-index.lives.list.items in
-    let table = c.args.table.now in
+    let table = c.args.at.now.table.now in
     let last : c.loop-index.index ≡ c.loop-index.end = omega (arith, c.loop-index-test.false, inv.index_bounded) in
-    let waiting = rest_waits f rules_now.params.now rules_now.bound rules_now.stop_rule table c.args.place inv.at inv.low c.args.lives.now.first c.loop-index.index c.loop-index.end
+    let waiting = rest_waits f rules_now.params.now rules_now.bound rules_now.stop_rule table c.args.at.now.place inv.at inv.low c.args.lives.now.first c.loop-index.index c.loop-index.end
     c.args.lives.now.list.items now inv.begun last inv.count inv.rest inv.waits c.requires.over c.requires.best inv.live in
     let first = c.loop-index.lives.first in
     let within : c.loop-index.kept ≤ length now = omega (arith, inv.kept_bounded, inv.index_bounded, inv.end_bounded, inv.count) in
@@ -428,7 +482,8 @@ returns-clause-tried g c =
 pub returns-clause-untouched : goal.returns-clause-untouched
 returns-clause-untouched g c = λ none.
     let neither = c.either.ensures none in
-    c.offer_waiting-waiting.ensures.untouched neither.1 ∙ c.loop-index.invariant.untouched neither.0
+    same_rows c.args.row.now c.loop-index.row c.offer_waiting-waiting.new.row (c.loop-index.invariant.untouched neither.0)
+    (c.offer_waiting-waiting.ensures.untouched neither.1)
 
 pub returns-clause-first_bounded : goal.returns-clause-first_bounded
 returns-clause-first_bounded g c =

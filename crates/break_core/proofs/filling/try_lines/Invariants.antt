@@ -2,34 +2,36 @@ use Rattle.std.proofs.Common.{false, ◌≡◌, ◌+◌, ◌-◌, ◌≤◌, ◌
 use Rattle.std.specs.Prelude.{slice_get, ◌⊎◌}
 use Rattle.break_lines.specs.Tables.{slots, IsRow}
 use Rattle.break_core.specs.Private.Active.{stops_at, problem_leaving_out, groups_of, live_of, AreOver, HaveBest, IsActive, IsSwept, TrialsOnlyGrow, WasTried, AreLoosest}
+use Rattle.break_core.specs.Private.Offers.{row_at, AreOffers, IsSameRow}
 use Rattle.break_core.proofs.Active.{IsFront}
 use Rattle.break_core.proofs.filling.try_lines.Given as goal
 
 abbrev pub invariant-loop-index : goal.invariant-loop-index
 invariant-loop-index g l = record {
-  wide : length l.row.items ≡ slots l.rules.params.now.first_lines;
+  wide : length (row_at l.at.rules.now.params.now.first_lines l.at.table.now l.at.place l.row) ≡ slots l.at.rules.now.params.now.first_lines;
+  held : l.at.rules.now.params.now.first_lines ≡ 0 → AreOffers l.at.table.now l.at.place l.row.offers;
   facts : g.M.Meter.facts l.meter ≡ g.M.Meter.facts l.initial.meter;
-  swept : IsSwept (stops_at (g.M.Meter.facts l.initial.meter) l.rules.params.now l.rules.stop_rule) l.place (g.M.Meter.trials l.initial.meter) (g.M.Meter.trials l.meter);
+  swept : IsSwept (stops_at (g.M.Meter.facts l.initial.meter) l.at.rules.now.params.now l.at.rules.now.stop_rule) l.at.place (g.M.Meter.trials l.initial.meter) (g.M.Meter.trials l.meter);
   kept : TrialsOnlyGrow (g.M.Meter.trials l.initial.meter) (g.M.Meter.trials l.meter);
   tried : l.initial.lives.first < l.index → WasTried (groups_of (live_of l.initial.lives)) (g.M.Meter.trials l.initial.meter) (g.M.Meter.trials l.meter);
   at : ℕ;
   low : ℕ;
   fresh : (a : ℕ) → low ≤ a → g.M.Meter.trials l.meter a ≤ g.M.Meter.trials l.initial.meter a;
-  live : IsActive (problem_leaving_out (g.M.Meter.facts l.initial.meter) l.rules.params.now l.rules.bound l.rules.stop_rule) (stops_at (g.M.Meter.facts l.initial.meter) l.rules.params.now l.rules.stop_rule) l.table l.place l.place at low (drop l.index (groups_of l.initial.lives.list.items));
-  row : IsRow (problem_leaving_out (g.M.Meter.facts l.initial.meter) l.rules.params.now l.rules.bound l.rules.stop_rule) l.table l.place at l.row.items;
+  live : IsActive (problem_leaving_out (g.M.Meter.facts l.initial.meter) l.at.rules.now.params.now l.at.rules.now.bound l.at.rules.now.stop_rule) (stops_at (g.M.Meter.facts l.initial.meter) l.at.rules.now.params.now l.at.rules.now.stop_rule) l.at.table.now l.at.place l.at.place at low (drop l.index (groups_of l.initial.lives.list.items));
+  row : IsRow (problem_leaving_out (g.M.Meter.facts l.initial.meter) l.at.rules.now.params.now l.at.rules.now.bound l.at.rules.now.stop_rule) l.at.table.now l.at.place at (row_at l.at.rules.now.params.now.first_lines l.at.table.now l.at.place l.row);
   begun : l.initial.lives.first ≤ l.index;
   first_bounded : l.lives.first ≤ l.kept;
   kept_bounded : l.kept ≤ l.index;
   count : length l.lives.list.items ≡ length l.initial.lives.list.items;
   rest : (k : ℕ) → l.index ≤ k → slice_get l.lives.list.items k ≡ slice_get l.initial.lives.list.items k;
-  front : IsFront (problem_leaving_out (g.M.Meter.facts l.initial.meter) l.rules.params.now l.rules.bound l.rules.stop_rule) (stops_at (g.M.Meter.facts l.initial.meter) l.rules.params.now l.rules.stop_rule) l.table l.place l.place at low (groups_of (drop l.lives.first (take l.kept l.lives.list.items)));
-  over : AreOver (g.M.Meter.facts l.initial.meter) l.rules.params.now (l.place + 1) (drop l.lives.first (take l.kept l.lives.list.items));
-  best : HaveBest l.table l.rules.params.now (drop l.lives.first (take l.kept l.lives.list.items));
+  front : IsFront (problem_leaving_out (g.M.Meter.facts l.initial.meter) l.at.rules.now.params.now l.at.rules.now.bound l.at.rules.now.stop_rule) (stops_at (g.M.Meter.facts l.initial.meter) l.at.rules.now.params.now l.at.rules.now.stop_rule) l.at.table.now l.at.place l.at.place at low (groups_of (drop l.lives.first (take l.kept l.lives.list.items)));
+  over : AreOver (g.M.Meter.facts l.initial.meter) l.at.rules.now.params.now (l.at.place + 1) (drop l.lives.first (take l.kept l.lives.list.items));
+  best : HaveBest l.at.table.now l.at.rules.now.params.now (drop l.lives.first (take l.kept l.lives.list.items));
   index_bounded : l.index ≤ l.end;
   end_bounded : l.end ≤ length l.initial.lives.list.items;
   begins : (length l.initial.lives.list.items ≤ l.end) ⊎ (l.initial.lives.first < l.end);
-  waits : (length l.initial.lives.list.items ≤ l.end) ⊎ AreLoosest (g.M.Meter.facts l.initial.meter) l.rules.params.now l.rules.bound low l.place;
-  untouched : l.offered ≡ false → l.row.items ≡ l.initial.row.items;
+  waits : (length l.initial.lives.list.items ≤ l.end) ⊎ AreLoosest (g.M.Meter.facts l.initial.meter) l.at.rules.now.params.now l.at.rules.now.bound low l.at.place;
+  untouched : l.offered ≡ false → IsSameRow l.initial.row l.row;
 }
 
 abbrev pub decreases-loop-index : goal.decreases-loop-index

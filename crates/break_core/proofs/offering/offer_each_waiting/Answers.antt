@@ -1,42 +1,29 @@
-use Rattle.std.proofs.Common.{◌∙◌, ◌<◌, ◌≤◌, length, ap, sym, rules, arith}
+use Rattle.std.proofs.Common.{◌≡◌, ◌∙◌, ◌<◌, ◌≤◌, length, subst, sym, rules, arith}
 use Rattle.std.proofs.lemmas.List.{length-map}
 use Rattle.std.proofs.lemmas.Option.{slice_get-get_or}
-use Rattle.break_lines.specs.Tables.{slots}
 use Rattle.break_core.specs.declared.active_list.Live.{Live}
+use Rattle.break_core.specs.declared.row.Row.{Row}
 use Rattle.break_core.specs.Private.Active.{groups_of}
+use Rattle.break_core.specs.Private.Filling.{IsOfferingBest}
+use Rattle.break_core.specs.Private.Offers.{row_at}
+use Rattle.break_core.proofs.BestEntries.{best_in_row}
 use Rattle.break_core.proofs.Waiting.{offered_none, offered_more, offered_all}
 use Rattle.break_core.proofs.offering.offer_each_waiting.Goals as goal
 
 pub loop-index-init : goal.loop-index-init
 loop-index-init c =
+    let params = c.args.at.now.rules.now.params.now in
+    let table = c.args.at.now.table.now in
+    let place = c.args.at.now.place in
     record {
-      wide = c.requires.can.wide;
-      offered = offered_none c.args.table.now c.args.params.now c.args.alone c.args.lives.now c.args.place c.args.row.now.items;
+      held = c.requires.held;
+      offered = offered_none table params c.args.alone c.args.lives.now place (row_at params.first_lines table place c.args.row.now);
     }
-
-pub offer_best-requires-clause-uncounted : goal.offer_best-requires-clause-uncounted
-offer_best-requires-clause-uncounted c =
-    let within : c.loop-index.index < length c.args.lives.now = search rules in
-    c.requires.can.uncounted (omega (arith, within))
-
-pub offer_best-requires-clause-wide : goal.offer_best-requires-clause-wide
-offer_best-requires-clause-wide c =
-    let within : c.loop-index.index < length c.args.lives.now = search rules in
-    let none = c.requires.can.uncounted (omega (arith, within)) in
-    c.loop-index.invariant.wide ∙ ap slots none
-
-pub offer_best-requires-clause-group_bounded : goal.offer_best-requires-clause-group_bounded
-offer_best-requires-clause-group_bounded c =
-    let within : c.loop-index.index < length c.args.lives.now = search rules in
-    (c.requires.can.each c.loop-index.index _ (slice_get-get_or c.args.lives.now c.loop-index.index _ within)).within
 
 pub offer_best-requires-clause-earlier : goal.offer_best-requires-clause-earlier
 offer_best-requires-clause-earlier c =
     let within : c.loop-index.index < length c.args.lives.now = search rules in
     (c.requires.can.each c.loop-index.index _ (slice_get-get_or c.args.lives.now c.loop-index.index _ within)).earlier
-
-pub offer_best-requires-clause-places : goal.offer_best-requires-clause-places
-offer_best-requires-clause-places c = c.requires.can.places
 
 pub offer_best-requires-clause-entries : goal.offer_best-requires-clause-entries
 offer_best-requires-clause-entries c =
@@ -47,25 +34,37 @@ pub offer_best-requires-clause-best : goal.offer_best-requires-clause-best
 offer_best-requires-clause-best c =
     let within : c.loop-index.index < length c.args.lives.now = search rules in
     c.requires.can.best c.loop-index.index _ (slice_get-get_or c.args.lives.now c.loop-index.index _ within)
+    (c.requires.can.uncounted (omega (arith, within)))
+
+pub offer_best-requires-clause-held : goal.offer_best-requires-clause-held
+offer_best-requires-clause-held c =
+    let within : c.loop-index.index < length c.args.lives.now = search rules in
+    c.loop-index.invariant.held (c.requires.can.uncounted (omega (arith, within)))
 
 pub loop-index-preserved : goal.loop-index-preserved
 loop-index-preserved c =
     let lives = c.args.lives.now in
+    let params = c.args.at.now.rules.now.params.now in
+    let table = c.args.at.now.table.now in
+    let place = c.args.at.now.place in
     let within : c.loop-index.index < length lives = search rules in
     let none = c.requires.can.uncounted (omega (arith, within)) in
+    let now : Row = record { offers = c.offer_best.new.offers; counted = c.loop-index.row.counted } in
     record {
-      wide = c.offer_best.ensures.wide ∙ sym (ap slots none);
-      offered = offered_more c.args.table.now c.args.params.now c.args.alone lives c.args.place c.loop-index.index _ c.args.row.now.items
-          c.loop-index.row.items c.offer_best.new.row.items none (slice_get-get_or lives c.loop-index.index _ within) c.offer_best.ensures.row
-          c.loop-index.invariant.offered;
+      held = λ _. c.offer_best.ensures.held;
+      offered = offered_more table params c.args.alone lives place c.loop-index.index _ (row_at params.first_lines table place c.args.row.now)
+          (row_at params.first_lines table place c.loop-index.row) (row_at params.first_lines table place now) none
+          (slice_get-get_or lives c.loop-index.index _ within)
+          (best_in_row params.first_lines table params _ place c.args.alone c.loop-index.row now none c.offer_best.ensures.row) c.loop-index.invariant.offered;
     }
 
-pub returns : goal.returns
-returns c =
+pub returns-clause-row : goal.returns-clause-row
+returns-clause-row c =
     let lives = c.args.lives.now in
+    let params = c.args.at.now.rules.now.params.now in
+    let table = c.args.at.now.table.now in
+    let place = c.args.at.now.place in
     let end : length lives ≤ c.loop-index.index = search rules in
     let past : length (groups_of lives) ≤ c.loop-index.index = omega (arith, end, length-map lives (λ (x : Live). x.group)) in
-    record {
-      row = offered_all c.args.table.now c.args.params.now c.args.alone lives c.args.place c.loop-index.index c.args.row.now.items
-          c.loop-index.row.items past c.loop-index.invariant.offered;
-    }
+    offered_all table params c.args.alone lives place c.loop-index.index (row_at params.first_lines table place c.args.row.now)
+    (row_at params.first_lines table place c.loop-index.row) past c.loop-index.invariant.offered

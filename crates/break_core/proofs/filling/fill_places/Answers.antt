@@ -1,13 +1,12 @@
 use Rattle.std.proofs.Common.{◌≡◌, ◌∙◌, ◌+◌, ℕ, [], ◌∷◌, None, length, false, replicate, refl, ap, sym, subst, rules, arith}
-use Rattle.break_lines.specs.Tables.{slots, first_entry}
+use Rattle.break_lines.specs.Tables.{first_entry, IsTable}
 use Rattle.break_lines.specs.declared.group.ActiveGroup.{ActiveGroup}
 use Rattle.break_core.specs.Private.Active.{stops_at, problem_leaving_out, groups_of, live_of, AreOver, HasBest, IsFilled, IsSwept}
-use Rattle.break_core.specs.Private.Filling.{IsOf}
+use Rattle.break_core.specs.Private.Offers.{IsEmpty}
 use Rattle.break_core.proofs.Active.{table_rest}
-use Rattle.break_core.proofs.Filled.{first_of}
 use Rattle.break_core.proofs.Counts.{counted_none, counted_more, counted_longer, kept_none, kept_on, started_more, started_none, start_group}
 use Rattle.break_core.proofs.Lives.{filled_start, over_first, best_kept}
-use Rattle.break_core.proofs.filling.fill.Goals as goal
+use Rattle.break_core.proofs.filling.fill_places.Goals as goal
 
 pub loop-before-init : goal.loop-before-init
 loop-before-init g c =
@@ -31,7 +30,7 @@ loop-before-init g c =
       kept = kept_none (g.M.Meter.trials c.args.meter.now);
       begins = λ _. ap groups_of lives ∙ ap (λ (x : ActiveGroup). x ∷ []) group;
       started = λ some. absurd (omega (arith, some));
-      empty = c.in_ok-row.ensures ∙ ap (λ n. replicate (slots n) None) c.get.ensures.value;
+      empty = subst (λ n. IsEmpty n c.in_ok-row.row) c.get.ensures.value c.in_ok-row.ensures;
     }
 
 pub loop-before-preserved : goal.loop-before-preserved
@@ -90,8 +89,13 @@ returns-then-is_empty-clause-tried g c =
 pub new_live-live-requires : goal.new_live-live-requires
 new_live-live-requires g c =
     let table : c.push.new.self.items ≡ first_entry ∷ [] = search rules in
-    record {
-      group_bounded = omega (arith, ap length (c.deref.ensures.value ∙ table));
-      entries = subst (λ t. IsOf c.args.rules.now.params.now.first_lines t start_group) (sym (c.deref.ensures.value ∙ table))
-          (first_of c.args.rules.now.params.now.first_lines start_group refl refl);
-    }
+    record { group_bounded = omega (arith, ap length (c.deref.ensures.value ∙ table)) }
+
+pub returns-clause-table : goal.returns-clause-table
+returns-clause-table g c =
+    let f = g.M.Meter.facts c.args.meter.now in
+    let rules_now = c.args.rules.now in
+    let end : c.loop-before.before + 1 ≡ f.places + 1 =
+    omega (arith, c.loop-before-test.false, c.loop-before.auto.before-end, c.places-before-end.ensures.count, ap (λ x. x.places) c.loop-before.invariant.facts) in
+    subst (λ n. IsTable (problem_leaving_out f rules_now.params.now rules_now.bound rules_now.stop_rule) n c.loop-before.reached.table.items) end
+    c.loop-before.invariant.filled.is_table

@@ -1,8 +1,8 @@
-use Rattle.std.proofs.Common.{◌≡◌, ◌+◌, ◌<◌, ◌≤◌, length, [], ◌∷◌, replicate, None}
-use Rattle.break_lines.specs.Tables.{slots}
+use Rattle.std.proofs.Common.{◌≡◌, ◌+◌, ◌<◌, ◌≤◌, length, [], ◌∷◌}
 use Rattle.break_core.specs.Private.Active.{stops_at, problem_leaving_out, groups_of, live_of, AreOver, HaveBest, IsFilled, IsCounted, TrialsOnlyGrow}
+use Rattle.break_core.specs.Private.Offers.{IsEmpty}
 use Rattle.break_core.proofs.Counts.{start_group}
-use Rattle.break_core.proofs.filling.fill.Given as goal
+use Rattle.break_core.proofs.filling.fill_places.Given as goal
 
 abbrev pub invariant-loop-before : goal.invariant-loop-before
 invariant-loop-before g l = record {
@@ -15,5 +15,5 @@ invariant-loop-before g l = record {
   kept : TrialsOnlyGrow (g.M.Meter.trials l.initial.meter) (g.M.Meter.trials l.meter);
   begins : l.before ≡ 0 → groups_of (live_of l.reached.live) ≡ start_group ∷ [];
   started : 0 < l.before → g.M.Meter.trials l.initial.meter 0 < g.M.Meter.trials l.meter 0;
-  empty : l.row.items ≡ replicate (slots l.rules.params.now.first_lines) None;
+  empty : IsEmpty l.rules.params.now.first_lines l.row;
 }
