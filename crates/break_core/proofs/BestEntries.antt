@@ -256,16 +256,16 @@ totals_offered table params live place alone best offered old new of is made put
 
 -- It stands for an entry whose last line is small.
 pub offer_stands :
-    (table : List Entry) (params : Params) (live : Live) (place : ℕ) (alone : LineCost) (best offered : Offer)
-    → IsOf 0 table live.group → IsBestFor table params alone.class live.group.start live.group.end best → live.group.place < place
-    → IsSmallAlone alone → offered ≡ offer_by best alone → IsOffer table place alone.class offered
-offer_stands table params live place alone best offered of is earlier small made =
-    subst (IsOffer table place alone.class) (sym made)
+    (table : List Entry) (params : Params) (live : Live) (alone : LineCost) (best offered : Offer)
+    → IsOf 0 table live.group → IsBestFor table params alone.class live.group.start live.group.end best
+    → IsSmallAlone alone → offered ≡ offer_by best alone → IsOffer table (live.group.place + 1) alone.class offered
+offer_stands table params live alone best offered of is small made =
+    subst (IsOffer table (live.group.place + 1) alone.class) (sym made)
     (record {
       before = is.entry;
       real = omega (arith, is.high, is.real);
       present = is.present;
-      earlier = omega (arith, earlier, (of best.index is.entry is.low is.high is.present).0);
+      earlier = omega (arith, (of best.index is.entry is.low is.high is.present).0);
       small = record {
         overhang = record { low = omega (arith, ints, overhang, small.overhang.low); high = omega (arith, ints, overhang, small.overhang.high) };
         demerits = record {

@@ -1,8 +1,9 @@
 -- Offers that are kept without their entries, and the row that they stand for.
 use Rattle.std.proofs.Common.{◌≡◌, ◌∙◌, ℕ, zero, suc, ◌+◌, ◌<◌, ◌≤◌, Bool, true, false, cond, List, [], ◌∷◌, ◌++◌, length, length-append, set, replicate, refl, ap, sym, subst, arith, Option, Some, None}
-use Rattle.std.specs.Prelude.{not, slice_get, ◌==◌, ◌<ℤ◌}
+use Rattle.std.specs.Prelude.{ℤ, not, int_lt, slice_get, ◌==◌, ◌<ℤ◌, ◌≤ℤ◌}
 use Rattle.std.proofs.Math.Logic.{◌⊎◌, inl, inr}
 use Rattle.std.proofs.lemmas.Bool.{cases_Bool, cases_eq, cond-true, cond-false}
+use Rattle.std.proofs.lemmas.Int.{ints}
 use Rattle.std.proofs.lemmas.List.{append_assoc, append-nil}
 use Rattle.std.proofs.lemmas.Option.{same_Some, slice_get_within}
 use Rattle.break_lines.specs.declared.state.Fitness.{Fitness}
@@ -17,7 +18,7 @@ use Rattle.break_lines.proofs.Entries.{get_at, get_left, get-set_same, get-set_o
 use Rattle.break_core.specs.declared.row.Offer.{Offer}
 use Rattle.break_core.specs.declared.row.Row.{Row}
 use Rattle.break_core.specs.Private.Filling.{IsKind}
-use Rattle.break_core.specs.Private.Offers.{no_entry, no_offer, no_offers, class_of, totals_of, entry_after, shown_offer, shown_from, row_at, IsOffer, AreOffers, offer_numbers, IsAsGood, IsEmpty, IsSameRow}
+use Rattle.break_core.specs.Private.Offers.{no_entry, no_offer, no_offers, class_of, totals_of, entry_after, shown_offer, shown_from, row_at, IsOffer, AreOffers, offer_numbers, IsAsGood, IsAtMost, IsBelow, IsEmpty, IsSameRow}
 
 -- Ends of lines that are equal, or of which one comes first.
 pub tie_first :
@@ -177,35 +178,48 @@ shown_ordered a b e f place class (inr (same, inr (equal, rest))) =
       ),
     )
 
--- An offer is not put into a slot that holds one that is as good.
+pub offer_real :
+    (table : List Entry) (place : ℕ) (class : Fitness) (o : Offer)
+    → (o.index ≡ no_entry) ⊎ IsOffer table place class o → (o.index ≡ no_entry → ⊥) → IsOffer table place class o
+offer_real table place class o (inl none) some = absurd (some none)
+offer_real table place class o (inr is) some = is
+
+-- Integers.
+at_most_cases : (a b : ℤ) → a ≤ℤ b → (a <ℤ b) ⊎ (a ≡ b)
+at_most_cases a b least = which (cases_Bool (int_lt a b))
+  where
+    which : (int_lt a b ≡ true) ⊎ (int_lt a b ≡ false) → (a <ℤ b) ⊎ (a ≡ b)
+    which (inl less) = inl (grind arith)
+    which (inr other) = inr (omega (arith, ints, not_less other))
+      where
+        not_less : int_lt a b ≡ false → b ≤ℤ a
+        not_less same = grind arith
+
+-- An offer is not put into a slot that holds a better one.
 pub put_kept :
-    (table : List Entry) (place : ℕ) (offers : List Offer) (class : Fitness) (held offered : Offer) (e : Entry)
+    (table : List Entry) (low place : ℕ) (offers : List Offer) (class : Fitness) (held offered : Offer) (e : Entry)
     → slice_get offers (class_index class) ≡ Some held → slice_get table offered.index ≡ Some e
-    → held.index < no_entry → (held.index ≡ no_entry) ⊎ (held.index < length table) → IsAsGood table held offered
+    → held.index < no_entry → AreOffers table low offers → IsBelow held offered
     → IsPut (entry_with_totals e offered.index place (totals_of class offered)) (shown_from table place 0 offers) (shown_from table place 0 offers)
-put_kept table place offers class held offered e at present real bounded good =
+put_kept table low place offers class held offered e at present real are below =
     record {
       held = shown_offer table place class held;
       was_present = was;
       kept = kept;
       is_kept = record {
         is = inr shown;
-        offered = shown_ordered held offered before.0 e place class (good before.0 e before.1 present);
+        offered = shown_ordered held offered is.before e place class (lower below);
         older = λ h same. subst (λ x. NotAfter (compared_numbers kept) (compared_numbers x)) (same_Some kept h (sym shown ∙ same))
             (not_after_refl (compared_numbers kept));
       };
       is = sym (set-get_same (shown_from table place 0 offers) here (Some kept) (was ∙ ap Some shown));
     }
   where
-    within : (held.index ≡ no_entry) ⊎ (held.index < length table) → held.index < length table
-    within (inl none) = absurd (omega (arith, real, none))
-    within (inr less) = less
-
-    before : (f : Entry) × (slice_get table held.index ≡ Some f)
-    before = get_at table held.index (within bounded)
+    is : IsOffer table low class held
+    is = offer_real table low class held (are class held at) (λ none. omega (arith, real, none))
 
     kept : Entry
-    kept = entry_with_totals before.0 held.index place (totals_of class held)
+    kept = entry_with_totals is.before held.index place (totals_of class held)
 
     here : ℕ
     here = slot ((entry_with_totals e offered.index place (totals_of class offered)).end)
@@ -214,19 +228,23 @@ put_kept table place offers class held offered e at present real bounded good =
     is_here = omega arith
 
     shown : shown_offer table place class held ≡ Some kept
-    shown = shown_some table place class held before.0 real before.1
+    shown = shown_some table place class held is.before real is.present
 
     was : slice_get (shown_from table place 0 offers) here ≡ Some (shown_offer table place class held)
     was = ap (slice_get (shown_from table place 0 offers)) is_here ∙ shown_here table place offers class held at
 
--- An offer is put into a slot without one, or instead of one that is not better.
+    lower : IsBelow held offered → NotAfter (offer_numbers held is.before) (offer_numbers offered e)
+    lower (inl less) = inl less
+    lower (inr (same, less)) = inr (same, inl less)
+
+-- An offer is put into a slot without one, or instead of one that is not better. Of two with the same totals the later one is better.
 pub put_new :
-    (table : List Entry) (place : ℕ) (offers : List Offer) (class : Fitness) (held offered : Offer) (e : Entry)
+    (table : List Entry) (low place : ℕ) (offers : List Offer) (class : Fitness) (held offered : Offer) (e : Entry)
     → slice_get offers (class_index class) ≡ Some held → slice_get table offered.index ≡ Some e
-    → offered.index < no_entry → (held.index ≡ no_entry) ⊎ (held.index < length table) → (held.index ≡ no_entry) ⊎ IsAsGood table offered held
+    → offered.index < no_entry → low ≤ e.end.place → AreOffers table low offers → (held.index ≡ no_entry) ⊎ IsAtMost offered held
     → IsPut (entry_with_totals e offered.index place (totals_of class offered)) (shown_from table place 0 offers)
     (shown_from table place 0 (set offers (class_index class) offered))
-put_new table place offers class held offered e at present real bounded good =
+put_new table low place offers class held offered e at present real later are most =
     record {
       held = shown_offer table place class held;
       was_present = was;
@@ -234,7 +252,7 @@ put_new table place offers class held offered e at present real bounded good =
       is_kept = record {
         is = inl refl;
         offered = not_after_refl (compared_numbers new);
-        older = λ h same. older h same bounded good;
+        older = λ h same. older h same (are class held at) most;
       };
       is = shown_written table place offers class offered
           ∙ ap (set (shown_from table place 0 offers) (class_index class)) (shown_some table place class offered e real present)
@@ -256,25 +274,41 @@ put_new table place offers class held offered e at present real bounded good =
     no_older : (h : Entry) → shown_offer table place class held ≡ Some h → held.index ≡ no_entry → NotAfter (compared_numbers new) (compared_numbers h)
     no_older h same none = let nothing = shown_none table place class held none in absurd (cc)
 
-    older :
-        (h : Entry) → shown_offer table place class held ≡ Some h → (held.index ≡ no_entry) ⊎ (held.index < length table)
-        → (held.index ≡ no_entry) ⊎ IsAsGood table offered held → NotAfter (compared_numbers new) (compared_numbers h)
-    older h same (inl none) either = no_older h same none
-    older h same (inr within) (inl none) = no_older h same none
-    older h same (inr within) (inr better) = which (cases_Bool (held.index == no_entry))
+    first : (f : Entry) → f.end.place < low → IsAtMost offered held → NotAfter (offer_numbers offered e) (offer_numbers held f)
+    first f earlier (inl less) = inl less
+    first f earlier (inr (same, least)) = inr (same, cases (at_most_cases offered.demerits held.demerits least))
       where
-        before : (f : Entry) × (slice_get table held.index ≡ Some f)
-        before = get_at table held.index within
+        cases :
+            (offered.demerits <ℤ held.demerits) ⊎ (offered.demerits ≡ held.demerits)
+            → NotAfter (offered.demerits ∷ tie_numbers (e.end ∷ [])) (held.demerits ∷ tie_numbers (f.end ∷ []))
+        cases (inl less) = inl less
+        cases (inr equal) = inr (equal, inl (omega (arith, ints, earlier, later)))
 
-        which : ((held.index == no_entry) ≡ true) ⊎ ((held.index == no_entry) ≡ false) → NotAfter (compared_numbers new) (compared_numbers h)
-        which (inl empty) = let none : held.index ≡ no_entry = grind arith in no_older h same none
-        which (inr some) =
-            let shown : shown_offer table place class held ≡ Some (entry_with_totals before.0 held.index place (totals_of class held)) =
-            cond-false (held.index == no_entry) None (entry_after (slice_get table held.index) place class held) some
-            ∙ ap (λ x. entry_after x place class held) before.1 in
-            subst (λ x. NotAfter (compared_numbers new) (compared_numbers x))
-            (same_Some (entry_with_totals before.0 held.index place (totals_of class held)) h (sym shown ∙ same))
-            (shown_ordered offered held e before.0 place class (better e before.0 present before.1))
+    older :
+        (h : Entry) → shown_offer table place class held ≡ Some h → (held.index ≡ no_entry) ⊎ IsOffer table low class held
+        → (held.index ≡ no_entry) ⊎ IsAtMost offered held → NotAfter (compared_numbers new) (compared_numbers h)
+    older h same (inl none) either = no_older h same none
+    older h same (inr is) (inl none) = no_older h same none
+    older h same (inr is) (inr better) =
+        subst (λ x. NotAfter (compared_numbers new) (compared_numbers x))
+        (same_Some (entry_with_totals is.before held.index place (totals_of class held)) h
+        (sym (shown_some table place class held is.before is.real is.present) ∙ same))
+        (shown_ordered offered held e is.before place class (first is.before is.earlier better))
+
+-- Offers of entries of earlier places than one are of entries of earlier places than a later one.
+pub offers_later : (table : List Entry) (low high : ℕ) (offers : List Offer) → low ≤ high → AreOffers table low offers → AreOffers table high offers
+offers_later table low high offers later are class o at = which (are class o at)
+  where
+    which : (o.index ≡ no_entry) ⊎ IsOffer table low class o → (o.index ≡ no_entry) ⊎ IsOffer table high class o
+    which (inl none) = inl none
+    which (inr is) =
+        inr (record {
+          before = is.before;
+          real = is.real;
+          present = is.present;
+          earlier = omega (arith, is.earlier, later);
+          small = is.small;
+        })
 
 written : (offers : List Offer) (k : ℕ) (offered o : Offer) → slice_get (set offers k offered) k ≡ Some o → offered ≡ o
 written [] k offered o at = absurd (cc)
@@ -362,12 +396,6 @@ pub offer_moved :
 offer_moved table now front place class o is before =
     subst (λ t. (o.index ≡ no_entry) ⊎ IsOffer t place class o) (sym before) (offer_longer table (row_entries front) place class o is)
 
-pub offer_real :
-    (table : List Entry) (place : ℕ) (class : Fitness) (o : Offer)
-    → (o.index ≡ no_entry) ⊎ IsOffer table place class o → (o.index ≡ no_entry → ⊥) → IsOffer table place class o
-offer_real table place class o (inl none) some = absurd (some none)
-offer_real table place class o (inr is) some = is
-
 -- The offers for all classes are moved.
 four_same :
     (offers : List Offer) (a b c d : Offer)
@@ -423,10 +451,3 @@ kind_true counted first_lines is some = which (cases_Bool (counted == 0))
     which : ((counted == 0) ≡ true) ⊎ ((counted == 0) ≡ false) → 0 < first_lines
     which (inl same) = let none : counted ≡ 0 = grind arith in absurd (some none)
     which (inr other) = subst (λ t. IsKind (not t) first_lines) other is
-
--- The number of an offer is that of an entry.
-pub offers_bounded :
-    (table : List Entry) (place : ℕ) (class : Fitness) (o : Offer)
-    → (o.index ≡ no_entry) ⊎ IsOffer table place class o → (o.index ≡ no_entry) ⊎ (o.index < length table)
-offers_bounded table place class o (inl none) = inl none
-offers_bounded table place class o (inr is) = inr (slice_get_within table o.index is.before is.present)

@@ -26,11 +26,14 @@ use Rattle.break_lines.proofs.Looseness.{loosest_part, loosest_fits, loosest_cos
 use Rattle.break_core.specs.declared.pass_rules.StopRule.{StopRule}
 use Rattle.break_core.specs.declared.pass_rules.StopRule.TheVariants.{Never, Overfull, Long}
 use Rattle.break_core.specs.declared.active_list.Live.{Live}
+use Rattle.break_core.specs.declared.row.Offer.{Offer}
+use Rattle.break_core.specs.Private.Offers.{AreOffers}
+use Rattle.break_core.proofs.Offers.{offers_later}
 use Rattle.break_core.specs.Passes.{problem_of}
 use Rattle.break_core.specs.Trials.{is_overfull}
 use Rattle.break_core.specs.Private.LeftOut.{is_long, over_before}
 use Rattle.break_core.specs.Private.Filling.{IsOfferingBest}
-use Rattle.break_core.specs.Private.Active.{stops_after, leaves_out, stops_at, problem_leaving_out, groups_of, AreOver, HasBest, HaveBest, MayStop, IsActive, AreLoosest, AllWait, CostLoosest, CanWait, CanAllWait, IsOfferingFirst, IsOfferingEach, IsOfferingWaiting, WasTried}
+use Rattle.break_core.specs.Private.Active.{stops_after, leaves_out, stops_at, problem_leaving_out, groups_of, AreOver, HasBest, HaveBest, MayStop, IsActive, AreLoosest, AllWait, CostLoosest, CanWait, CanAllWait, AreRising, AreOffersBefore, IsOfferingFirst, IsOfferingEach, IsOfferingWaiting, WasTried}
 use Rattle.break_core.proofs.Active.{later_silent, kept_active, row_silent, row_same, row_end, next_active, IsFront}
 use Rattle.break_core.proofs.Detours.{first_is, long_means}
 use Rattle.break_core.proofs.Filled.{group_of}
@@ -201,6 +204,53 @@ pub can_uncounted :
 can_uncounted n table b lives none can k live there =
     let some : 0 < length lives = omega (arith, slice_get_within lives k live there) in
     subst (λ m. CanWait m table b live.group) (none some) (can k live there)
+
+-- The places of the groups increase.
+pub active_rising :
+    (p : Problem) (stop : ℕ → ℕ → Bool) (table : List Entry) (b high at low : ℕ) (lives : List Live)
+    → IsActive p stop table b high at low (groups_of lives) → AreRising lives
+active_rising p stop table b high at low [] is j k live next after there here = absurd (cc)
+active_rising p stop table b high at low (x ∷ []) is zero zero live next after there here = absurd (omega (arith, after))
+active_rising p stop table b high at low (x ∷ []) is zero (suc k) live next after there here = absurd (cc)
+active_rising p stop table b high at low (x ∷ []) is (suc j) k live next after there here = absurd (cc)
+active_rising p stop table b high at low (x ∷ y ∷ lives) is zero zero live next after there here = absurd (omega (arith, after))
+active_rising p stop table b high at low (x ∷ y ∷ lives) is zero (suc zero) live next after there here =
+    let first = ap (λ (z : Live). z.group.place) (same_Some x live there) in
+    let second = ap (λ (z : Live). z.group.place) (same_Some y next here) in
+    omega (arith, first, second, is.1.0.later)
+active_rising p stop table b high at low (x ∷ y ∷ lives) is zero (suc (suc k)) live next after there here = absurd (omega (arith, after))
+active_rising p stop table b high at low (x ∷ y ∷ lives) is (suc j) zero live next after there here = absurd (omega (arith, after))
+active_rising p stop table b high at low (x ∷ y ∷ lives) is (suc j) (suc k) live next after there here =
+    active_rising p stop table b high x.group.end (x.group.place + 1) (y ∷ lives) is.1 j k live next (omega (arith, after)) there here
+
+-- They are later than all groups before them, and earlier than the place.
+pub first_later :
+    (p : Problem) (stop : ℕ → ℕ → Bool) (table : List Entry) (b high at low : ℕ) (lives : List Live) (live : Live)
+    → IsActive p stop table b high at low (groups_of lives) → slice_get lives 0 ≡ Some live → low ≤ live.group.place
+first_later p stop table b high at low [] live is here = absurd (cc)
+first_later p stop table b high at low (x ∷ lives) live is here =
+    omega (arith, ap (λ (z : Live). z.group.place) (same_Some x live here), is.0.later)
+
+pub low_within :
+    (p : Problem) (stop : ℕ → ℕ → Bool) (table : List Entry) (b high at low : ℕ) (groups : List ActiveGroup)
+    → IsActive p stop table b high at low groups → low ≤ high
+low_within p stop table b high at low [] is = is.lower
+low_within p stop table b high at low (g ∷ groups) is =
+    omega (arith, is.0.later, low_within p stop table b high g.end (g.place + 1) groups is.1)
+
+-- After the offers of a group, those of the row are of entries of earlier places than the next group.
+pub held_on :
+    (table : List Entry) (place index : ℕ) (lives : List Live) (live : Live) (offers : List Offer)
+    → slice_get lives index ≡ Some live → CanAllWait 0 table place lives → AreOffers table (live.group.place + 1) offers → AreOffers table place offers
+held_on table place index lives live offers there can held =
+    let earlier = (can index live there).earlier in offers_later table (live.group.place + 1) place offers (omega (arith, earlier)) held
+
+pub next_on :
+    (table : List Entry) (index : ℕ) (lives : List Live) (live : Live) (offers : List Offer)
+    → slice_get lives index ≡ Some live → AreRising lives → AreOffers table (live.group.place + 1) offers → AreOffersBefore table lives (index + 1) offers
+next_on table index lives live offers there rising held next here =
+    let later = rising index (index + 1) live next refl there here in
+    offers_later table (live.group.place + 1) next.group.place offers (omega (arith, later)) held
 
 -- If the loosest line is not admitted, groups that wait leave a row as it is.
 none_waiting :

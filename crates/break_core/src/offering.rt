@@ -1,6 +1,6 @@
 //! The offers of the entries of a group for a place, by a line that was tried from there.
 
-ghost use Rattle.std.specs.Prelude.{◌≡◌, ◌<◌, ◌≤◌, ◌<ℤ◌, pos, ◌&&◌, true, false, length, slice_get, Some, None};
+ghost use Rattle.std.specs.Prelude.{◌≡◌, ◌+◌, ◌<◌, ◌≤◌, ◌<ℤ◌, pos, ◌&&◌, true, false, length, slice_get, Some, None};
 ghost use Rattle.break_lines.specs.Tables.{slots};
 ghost use Rattle.break_lines.specs.Problems.{max_places};
 ghost use Rattle.break_lines.specs.Costs.{line_fit, is_loosest};
@@ -8,7 +8,7 @@ ghost use Rattle.break_lines.specs.Sizes.{fits_of_sums, IsSmallLineFits};
 ghost use Rattle.break_lines.specs.SmallCosts.{IsSmallSums, IsSmallAlone};
 ghost use Rattle.break_core.specs.Private.Filling.{IsKind, IsJudged, IsOf, CanOffer, IsOffering, IsOfferingUnless, IsOfferingBest};
 ghost use Rattle.break_core.specs.Private.Offers.{shown_from, row_at, IsSameRow, AreOffers, AreBefore, AreNumbered, IsBefore, IsBetter, AreBetter, AreBestFor};
-ghost use Rattle.break_core.specs.Private.Active.{HasBest, CanOfferWaiting, IsOfferingEach, IsOfferingWaiting};
+ghost use Rattle.break_core.specs.Private.Active.{HasBest, AreOffersBefore, CanOfferWaiting, IsOfferingEach, IsOfferingWaiting};
 
 use crate::active_list::Live;
 use crate::pass_rules::Rules;
@@ -195,14 +195,13 @@ pub(crate) fn new_live(table: &[Entry], group: ActiveGroup, params: &Params) -> 
 /// read for it.
 #[inline(always)]
 fn offer_best(offers: &mut [Offer; 4], at: &TriedPlace, live: &Live, alone: LineCost)
-    requires earlier { live.now.group.place < at.now.place }
     requires entries { IsOf 0 at.now.table.now live.now.group }
     requires best { AreBestFor at.now.table.now at.now.rules.now.params.now live.now.group.start live.now.group.end live.now.best }
     requires costs_bounded { IsSmallAlone alone }
-    requires held { AreOffers at.now.table.now at.now.place offers.old }
+    requires held { AreOffers at.now.table.now live.now.group.place offers.old }
     ensures row { IsOfferingBest at.now.table.now at.now.rules.now.params.now live.now.group at.now.place alone
         (shown_from at.now.table.now at.now.place 0 offers.old) (shown_from at.now.table.now at.now.place 0 offers.new) }
-    ensures held { AreOffers at.now.table.now at.now.place offers.new }
+    ensures held { AreOffers at.now.table.now (live.now.group.place + 1) offers.new }
     ensures wide { length offers.new ≡ 4 }
 {
     let best = live.best[alone.class.class_index()];
@@ -211,7 +210,7 @@ fn offer_best(offers: &mut [Offer; 4], at: &TriedPlace, live: &Live, alone: Line
         demerits: best.demerits + alone.demerits,
         index: best.index,
     };
-    put_offer(offers, at.table, alone.class, offered);
+    put_offer(offers, alone.class, offered);
 }
 
 /// Judges a line with these sums for the line size from the second line on.
@@ -274,14 +273,14 @@ pub(crate) fn offer_line<const COUNTED: bool>(
         at.now.place at.now.penalty }
     requires judged { IsJudged at.now.rules.now.params.now line.now }
     requires best { HasBest at.now.table.now at.now.rules.now.params.now live.now }
-    requires held { at.now.rules.now.params.now.first_lines ≡ 0 → AreOffers at.now.table.now at.now.place row.old.offers }
+    requires held { at.now.rules.now.params.now.first_lines ≡ 0 → AreOffers at.now.table.now live.now.group.place row.old.offers }
     ensures row { IsOfferingUnless left_out at.now.table.now at.now.rules.now.params.now at.now.rules.now.bound live.now.group at.now.place
         at.now.penalty (fits_of_sums at.now.rules.now.params.now line.now.sums)
         (row_at at.now.rules.now.params.now.first_lines at.now.table.now at.now.place row.old)
         (row_at at.now.rules.now.params.now.first_lines at.now.table.now at.now.place row.new) }
     ensures wide { length (row_at at.now.rules.now.params.now.first_lines at.now.table.now at.now.place row.new)
         ≡ slots at.now.rules.now.params.now.first_lines }
-    ensures held { at.now.rules.now.params.now.first_lines ≡ 0 → AreOffers at.now.table.now at.now.place row.new.offers }
+    ensures held { at.now.rules.now.params.now.first_lines ≡ 0 → AreOffers at.now.table.now (live.now.group.place + 1) row.new.offers }
     ensures untouched { result ≡ false → IsSameRow row.old row.new }
 {
     if COUNTED {
@@ -306,6 +305,7 @@ fn offer_each_waiting(row: &mut Row, at: &TriedPlace, lives: &[Live], alone: Lin
         (row_at at.now.rules.now.params.now.first_lines at.now.table.now at.now.place row.old) at.now.table.now lives.now at.now.place }
     requires costs_bounded { IsSmallAlone alone }
     requires held { at.now.rules.now.params.now.first_lines ≡ 0 → AreOffers at.now.table.now at.now.place row.old.offers }
+    requires next { AreOffersBefore at.now.table.now lives.now 0 row.old.offers }
     ensures row { IsOfferingEach at.now.table.now at.now.rules.now.params.now alone lives.now at.now.place
         (row_at at.now.rules.now.params.now.first_lines at.now.table.now at.now.place row.old)
         (row_at at.now.rules.now.params.now.first_lines at.now.table.now at.now.place row.new) }
@@ -325,6 +325,7 @@ pub(crate) fn offer_waiting(row: &mut Row, at: &TriedPlace, lives: &[Live]) -> b
         (row_at at.now.rules.now.params.now.first_lines at.now.table.now at.now.place row.old) at.now.table.now lives.now at.now.place }
     requires penalty { at.now.penalty <ℤ pos 10000 }
     requires held { at.now.rules.now.params.now.first_lines ≡ 0 → AreOffers at.now.table.now at.now.place row.old.offers }
+    requires next { AreOffersBefore at.now.table.now lives.now 0 row.old.offers }
     ensures row { IsOfferingWaiting at.now.table.now at.now.rules.now.params.now at.now.rules.now.bound lives.now at.now.place at.now.penalty
         (row_at at.now.rules.now.params.now.first_lines at.now.table.now at.now.place row.old)
         (row_at at.now.rules.now.params.now.first_lines at.now.table.now at.now.place row.new) }

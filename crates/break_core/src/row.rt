@@ -1,12 +1,13 @@
 //! The row of a place: the best offers so far. If no lines are counted, they are kept without their entries.
 
-ghost use Rattle.std.specs.Prelude.{◌≡◌, ◌<◌, ◌≤◌, ◌+◌, ◌++◌, ◌⊎◌, ◌∷◌, ℕ, [], true, false, length, replicate, set, slice_get, vec_len, vec_capacity};
+ghost use Rattle.std.specs.Prelude.{◌≡◌, ◌<◌, ◌≤◌, ◌+◌, ◌++◌, ◌⊎◌, ◌∷◌, ℕ, List, [], true, false, length, replicate, set, slice_get, vec_len, vec_capacity};
 ghost use Rattle.std.specs.Prelude.{Some, None, IfOk, OnOk};
 ghost use Rattle.break_lines.specs.Orders.{NotAfter};
 ghost use Rattle.break_lines.specs.Problems.{class_index, max_places, tie_numbers};
 ghost use Rattle.break_lines.specs.Tables.{Entry, slots, row_entries, IsPut};
 ghost use Rattle.break_lines.specs.Totals.{entry_with_totals};
 ghost use Rattle.break_core.specs.Private.Offers.{no_entry, totals_of, shown_offer, shown_from, row_at, IsOffer, AreOffers, IsAsGood, IsEmpty};
+ghost use Rattle.break_core.specs.Private.Offers.{IsAtMost, IsBelow};
 
 use break_lines::{Entry, Fitness, LineCost, empty_row, flush_row, order};
 use std::alloc::{AllocError, Global};
@@ -84,34 +85,37 @@ pub(crate) fn is_as_good(table: &[Entry], first: Offer, second: Offer) -> bool
     wins_tie(table, first.index, second.index)
 }
 
-/// Whether an offer replaces the content of a slot: the slot has no offer, or this one is as good or better.
+/// Whether an offer replaces the content of a slot: the slot has no offer, or this one is as good or better. Offers come in the order of the places
+/// before their last lines, and of two with the same totals the later one is better, so no entry is read.
 #[inline(always)]
-fn replaces(table: &[Entry], held: Offer, offered: Offer) -> bool
-    requires offered_bounded { offered.index < length table.now }
-    requires held_bounded { (held.index ≡ no_entry) ⊎ (held.index < length table.now) }
-    ensures yes { result ≡ true → (held.index ≡ no_entry) ⊎ IsAsGood table.now offered held }
+fn replaces(held: Offer, offered: Offer) -> bool
+    ensures yes { result ≡ true → (held.index ≡ no_entry) ⊎ IsAtMost offered held }
     ensures kept { result ≡ false → held.index < no_entry }
-    ensures no { result ≡ false → IsAsGood table.now held offered }
+    ensures no { result ≡ false → IsBelow held offered }
 {
     if held.index == NO_ENTRY {
         return true;
     }
-    is_as_good(table, offered, held)
+    if offered.overhang < held.overhang {
+        return true;
+    }
+    if offered.overhang > held.overhang {
+        return false;
+    }
+    offered.demerits <= held.demerits
 }
 
-/// Puts an offer into the slot of its class, unless the slot holds a better one.
+/// Puts an offer into the slot of its class, unless the slot holds a better one. The offers of the row are from earlier places.
 #[inline(always)]
-pub(crate) fn put_offer(offers: &mut [Offer; 4], table: &[Entry], class: Fitness, offered: Offer)
-    requires offered_bounded { offered.index < length table.now }
-    requires real { offered.index < no_entry }
-    requires held_bounded { (o : Offer) → slice_get offers.old (class_index class) ≡ Some o → (o.index ≡ no_entry) ⊎ (o.index < length table.now) }
-    ensures put { (place : ℕ) → (e : Entry) → slice_get table.now offered.index ≡ Some e →
-        IsPut (entry_with_totals e offered.index place (totals_of class offered)) (shown_from table.now place 0 offers.old)
-        (shown_from table.now place 0 offers.new) }
+pub(crate) fn put_offer(offers: &mut [Offer; 4], class: Fitness, offered: Offer)
+    requires { offered.index < no_entry }
+    ensures put { (table : List Entry) → (low : ℕ) → (place : ℕ) → (e : Entry) → slice_get table offered.index ≡ Some e → low ≤ e.end.place →
+        AreOffers table low offers.old → IsPut (entry_with_totals e offered.index place (totals_of class offered))
+        (shown_from table place 0 offers.old) (shown_from table place 0 offers.new) }
     ensures either { (offers.new ≡ offers.old) ⊎ (offers.new ≡ set offers.old (class_index class) offered) }
 {
     let slot = class.class_index();
-    if replaces(table, offers[slot], offered) {
+    if replaces(offers[slot], offered) {
         offers[slot] = offered;
     }
 }

@@ -26,7 +26,8 @@ use Rattle.break_core.specs.Passes.{problem_of, bound_of, IsBefore}
 use Rattle.break_core.specs.Trials.{is_overfull, IsStop, places_up_to, passes_run}
 use Rattle.break_core.specs.Private.LeftOut.{is_long, over_before, MayLeaveOut}
 use Rattle.break_core.specs.Private.Filling.{IsOf}
-use Rattle.break_core.specs.Private.Offers.{AreBestFor}
+use Rattle.break_core.specs.declared.row.Offer.{Offer}
+use Rattle.break_core.specs.Private.Offers.{AreOffers, AreBestFor}
 
 -- Whether trying lines from a place stops after a line from there, which is overfull or not, and long or not.
 abbrev pub stops_after : StopRule → (overfull long : Bool) → Bool
@@ -161,11 +162,21 @@ pub record CanWait (first_lines : ℕ) (table : List Entry) (place : ℕ) (group
 abbrev pub CanAllWait : (first_lines : ℕ) → (table : List Entry) → (place : ℕ) → List Live → Type 0
 CanAllWait first_lines table place lives = (k : ℕ) (live : Live) → slice_get lives k ≡ Some live → CanWait first_lines table place live.group
 
+-- The places of groups increase.
+abbrev pub AreRising : List Live → Type 0
+AreRising lives =
+    (j k : ℕ) (live next : Live) → k ≡ j + 1 → slice_get lives j ≡ Some live → slice_get lives k ≡ Some next → live.group.place < next.group.place
+
+-- These offers are of entries of earlier places than that of group number k.
+abbrev pub AreOffersBefore : (table : List Entry) → List Live → (k : ℕ) → List Offer → Type 0
+AreOffersBefore table lives k offers = (live : Live) → slice_get lives k ≡ Some live → AreOffers table live.group.place offers
+
 -- The entries of groups that wait can be offered for a place, one group after the other.
 pub record CanOfferWaiting (params : Params) (row : List (Option Entry)) (table : List Entry) (lives : List Live) (place : ℕ) : Type 0 where
   pub wide : length row ≡ slots params.first_lines
   pub uncounted : 0 < length lives → params.first_lines ≡ 0
   pub each : CanAllWait 0 table place lives
+  pub rising : AreRising lives
   pub best : HaveBest table params lives
   pub places : place ≤ max_places
 

@@ -1,6 +1,6 @@
 -- Offers without their entries, if no lines are counted: totals, and the number of the entry before the last line (own).
 use Rattle.std.specs.Prelude.{◌≡◌, ◌<◌, ◌≤◌, ◌⊎◌, ◌==◌, ℕ, zero, suc, ℤ, pos, List, replicate, [], ◌∷◌, length, slice_get, Option, Some, None}
-use Rattle.std.specs.Prelude.{if◌then◌else◌}
+use Rattle.std.specs.Prelude.{◌<ℤ◌, ◌≤ℤ◌, if◌then◌else◌}
 use Rattle.node_core.specs.declared.params.Params.{Params}
 use Rattle.break_lines.specs.declared.state.Fitness.{Fitness}
 use Rattle.break_lines.specs.declared.state.Fitness.TheVariants.{VeryLoose, Loose, Decent, Tight}
@@ -46,7 +46,7 @@ abbrev pub row_at : (cut : ℕ) → (table : List Entry) → (place : ℕ) → R
 row_at zero table place row = shown_from table place 0 row.offers
 row_at (suc n) table place row = row.counted.items
 
--- An offer for a place stands for an entry, whose last line is small.
+-- An offer stands for an entry, whose last line is small and comes from an earlier place than this one.
 pub record IsOffer (table : List Entry) (place : ℕ) (class : Fitness) (o : Offer) : Type 0 where
   pub before : Entry
   pub real : o.index < no_entry
@@ -58,6 +58,15 @@ pub record IsOffer (table : List Entry) (place : ℕ) (class : Fitness) (o : Off
 abbrev pub AreOffers : (table : List Entry) → (place : ℕ) → List Offer → Type 0
 AreOffers table place offers =
     (class : Fitness) (o : Offer) → slice_get offers (class_index class) ≡ Some o → (o.index ≡ no_entry) ⊎ IsOffer table place class o
+
+-- The totals of the first offer are at most those of the second, or below them.
+abbrev pub IsAtMost : (first second : Offer) → Type 0
+IsAtMost first second =
+    (first.overhang <ℤ second.overhang) ⊎ ((first.overhang ≡ second.overhang) × (first.demerits ≤ℤ second.demerits))
+
+abbrev pub IsBelow : (first second : Offer) → Type 0
+IsBelow first second =
+    (first.overhang <ℤ second.overhang) ⊎ ((first.overhang ≡ second.overhang) × (first.demerits <ℤ second.demerits))
 
 -- The numbers by which offers for one state are compared.
 abbrev pub offer_numbers : Offer → (before : Entry) → List ℤ

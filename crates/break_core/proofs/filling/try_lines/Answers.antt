@@ -9,20 +9,20 @@ use Rattle.break_lines.specs.Sizes.{least_width, fits_of_sums}
 use Rattle.break_core.specs.declared.active_list.Live.{Live}
 use Rattle.break_core.specs.Trials.{is_overfull}
 use Rattle.break_core.specs.Private.LeftOut.{is_long, is_more, kept_over}
-use Rattle.break_core.specs.Private.Active.{stops_after, stops_at, problem_leaving_out, groups_of, AreOver, HasBest, HaveBest, IsNext, IsActive, AreLoosest, CostLoosest, CanAllWait, IsOfferingWaiting}
+use Rattle.break_core.specs.Private.Active.{stops_after, stops_at, problem_leaving_out, groups_of, AreOver, HasBest, HaveBest, IsNext, IsActive, AreLoosest, CostLoosest, CanAllWait, AreRising, AreOffersBefore, IsOfferingWaiting}
 use Rattle.break_lines.specs.Tables.{slots, IsRow}
 use Rattle.break_lines.proofs.Rows.{row_empty}
 use Rattle.break_lines.proofs.Entries.{get-set_same, get-set_other}
 use Rattle.break_core.specs.Private.Filling.{CanOffer, IsOfferingUnless}
-use Rattle.break_core.specs.Private.Offers.{row_at}
-use Rattle.break_core.proofs.Offers.{row_none, offers_none, same_row, same_rows}
+use Rattle.break_core.specs.Private.Offers.{row_at, AreOffers}
+use Rattle.break_core.proofs.Offers.{row_none, offers_none, offers_later, same_row, same_rows}
 use Rattle.break_core.proofs.Filled.{group_of}
 use Rattle.break_core.proofs.Overfull.{overfull_of}
 use Rattle.break_core.proofs.Stopping.{long_found, over_found, line_leaving_out, stopped_is, goes_on, stopped_silent}
 use Rattle.break_core.proofs.Lives.{group_at, groups_kept, over_kept, best_kept, next_live, from_first, none_between, both_parts, parts_long}
 use Rattle.break_core.proofs.Active.{row_silent, front_more, IsFront}
 use Rattle.break_core.proofs.Counts.{swept_more, fresh_more, kept_more, kept_none, tried_first}
-use Rattle.break_core.proofs.Waiting.{later_loosest, wait_from, rest_waits, can_wait, can_uncounted, costs_waiting, front_with_rest, over_with_rest, best_joined, first_tried_from}
+use Rattle.break_core.proofs.Waiting.{active_rising, first_later, low_within, later_loosest, wait_from, rest_waits, can_wait, can_uncounted, costs_waiting, front_with_rest, over_with_rest, best_joined, first_tried_from}
 use Rattle.break_core.proofs.filling.try_lines.Goals as goal
 
 pub try_line-sums-requires-clause-later : goal.try_line-sums-requires-clause-later
@@ -127,7 +127,8 @@ offer_line-now-requires g c =
       best = subst (HasBest table params) same_live
           (c.requires.best (index - c.args.lives.now.first) live
           (from_first lives c.args.lives.now.first (index - c.args.lives.now.first) index live (omega (arith, inv.begun)) here));
-      held = inv.held;
+      held = λ none. subst (λ (x : Live). AreOffers table x.group.place c.loop-index.row.offers) same_live
+          (offers_later table inv.low live.group.place c.loop-index.row.offers next.later (inv.held none));
     }
 
 pub keep_over-requires : goal.keep_over-requires
@@ -211,7 +212,6 @@ loop-index-preserved g c =
     c.keep_group-kept.ensures.front kept present ∙ ap (λ xs. cond c.stops_after-stopped.result (drop passed xs) (drop passed xs ++ kept ∷ [])) same_front in
     record {
       wide = c.offer_line-now.ensures.wide;
-      held = c.offer_line-now.ensures.held;
       facts = c.try_line-sums.ensures.facts ∙ inv.facts;
       swept = swept_more stop c.args.at.now.place inv.low group.place (g.M.Meter.trials c.args.meter.now) (g.M.Meter.trials c.loop-index.meter)
           (g.M.Meter.trials c.try_line-sums.new.self) inv.swept inv.fresh next.later next.group.earlier next.not_stopped c.try_line-sums.ensures.counted
@@ -223,6 +223,7 @@ loop-index-preserved g c =
           c.try_line-sums.ensures.counted c.try_line-sums.ensures.others;
       at = group.end;
       low = group.place + 1;
+      held = λ none. subst (λ (x : Live). AreOffers table (x.group.place + 1) c.offer_line-now.new.row.offers) (sym same_live) (c.offer_line-now.ensures.held none);
       fresh = fresh_more inv.low group.place (g.M.Meter.trials c.args.meter.now) (g.M.Meter.trials c.loop-index.meter)
           (g.M.Meter.trials c.try_line-sums.new.self) inv.fresh next.later c.try_line-sums.ensures.others;
       live = both.1;
@@ -326,13 +327,13 @@ loop-index-init g c =
     let empty = row_none rules_now.params.now.first_lines c.args.at.now.table.now c.args.at.now.place c.args.row.now c.requires.empty in
     record {
       wide = ap length empty ∙ length-replicate (slots rules_now.params.now.first_lines) None;
-      held = offers_none rules_now.params.now.first_lines c.args.at.now.table.now c.args.at.now.place c.args.row.now c.requires.empty;
       facts = refl;
       swept = λ a. inl (omega arith);
       kept = kept_none (g.M.Meter.trials c.args.meter.now);
       tried = λ some. absurd (omega (arith, some));
       at = 0;
       low = 0;
+      held = offers_none rules_now.params.now.first_lines c.args.at.now.table.now 0 c.args.row.now c.requires.empty;
       fresh = λ a less. omega arith;
       live = subst (IsActive p (stops_at f rules_now.params.now rules_now.stop_rule) c.args.at.now.table.now c.args.at.now.place c.args.at.now.place 0 0)
           (sym (drop-map (λ (x : Live). x.group) first items)) c.requires.filled.is_active;
@@ -374,11 +375,17 @@ offer_waiting-waiting-requires g c =
         each = subst (CanAllWait 0 table c.args.at.now.place) (sym slice)
             (can_uncounted params.first_lines table c.args.at.now.place (drop c.loop-index.end now) waiting.uncounted
             (can_wait p stop table c.args.at.now.place c.args.at.now.place inv.at inv.low (drop c.loop-index.end now) c.requires.filled.is_table waiting.active));
+        rising = subst AreRising (sym slice) (active_rising p stop table c.args.at.now.place c.args.at.now.place inv.at inv.low (drop c.loop-index.end now) waiting.active);
         best = subst (HaveBest table params) (sym slice) waiting.best;
         places = c.requires.places;
       };
       penalty = c.requires.penalty_bounded;
-      held = inv.held;
+      held = λ none. offers_later table inv.low c.args.at.now.place c.loop-index.row.offers
+          (low_within p stop table c.args.at.now.place c.args.at.now.place inv.at inv.low (groups_of (drop c.loop-index.end now)) waiting.active) (inv.held none);
+      next = subst (λ xs. AreOffersBefore table xs 0 c.loop-index.row.offers) (sym slice)
+          (λ live here. offers_later table inv.low live.group.place c.loop-index.row.offers
+          (first_later p stop table c.args.at.now.place c.args.at.now.place inv.at inv.low (drop c.loop-index.end now) live waiting.active here)
+          (inv.held (waiting.uncounted (omega (arith, slice_get_within (drop c.loop-index.end now) 0 live here)))));
     }
 
 pub remove_groups-requires : goal.remove_groups-requires

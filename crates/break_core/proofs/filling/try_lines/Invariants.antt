@@ -9,13 +9,13 @@ use Rattle.break_core.proofs.filling.try_lines.Given as goal
 abbrev pub invariant-loop-index : goal.invariant-loop-index
 invariant-loop-index g l = record {
   wide : length (row_at l.at.rules.now.params.now.first_lines l.at.table.now l.at.place l.row) ≡ slots l.at.rules.now.params.now.first_lines;
-  held : l.at.rules.now.params.now.first_lines ≡ 0 → AreOffers l.at.table.now l.at.place l.row.offers;
   facts : g.M.Meter.facts l.meter ≡ g.M.Meter.facts l.initial.meter;
   swept : IsSwept (stops_at (g.M.Meter.facts l.initial.meter) l.at.rules.now.params.now l.at.rules.now.stop_rule) l.at.place (g.M.Meter.trials l.initial.meter) (g.M.Meter.trials l.meter);
   kept : TrialsOnlyGrow (g.M.Meter.trials l.initial.meter) (g.M.Meter.trials l.meter);
   tried : l.initial.lives.first < l.index → WasTried (groups_of (live_of l.initial.lives)) (g.M.Meter.trials l.initial.meter) (g.M.Meter.trials l.meter);
   at : ℕ;
   low : ℕ;
+  held : l.at.rules.now.params.now.first_lines ≡ 0 → AreOffers l.at.table.now low l.row.offers;
   fresh : (a : ℕ) → low ≤ a → g.M.Meter.trials l.meter a ≤ g.M.Meter.trials l.initial.meter a;
   live : IsActive (problem_leaving_out (g.M.Meter.facts l.initial.meter) l.at.rules.now.params.now l.at.rules.now.bound l.at.rules.now.stop_rule) (stops_at (g.M.Meter.facts l.initial.meter) l.at.rules.now.params.now l.at.rules.now.stop_rule) l.at.table.now l.at.place l.at.place at low (drop l.index (groups_of l.initial.lives.list.items));
   row : IsRow (problem_leaving_out (g.M.Meter.facts l.initial.meter) l.at.rules.now.params.now l.at.rules.now.bound l.at.rules.now.stop_rule) l.at.table.now l.at.place at (row_at l.at.rules.now.params.now.first_lines l.at.table.now l.at.place l.row);

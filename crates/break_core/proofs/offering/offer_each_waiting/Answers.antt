@@ -7,7 +7,7 @@ use Rattle.break_core.specs.Private.Active.{groups_of}
 use Rattle.break_core.specs.Private.Filling.{IsOfferingBest}
 use Rattle.break_core.specs.Private.Offers.{row_at}
 use Rattle.break_core.proofs.BestEntries.{best_in_row}
-use Rattle.break_core.proofs.Waiting.{offered_none, offered_more, offered_all}
+use Rattle.break_core.proofs.Waiting.{held_on, next_on, offered_none, offered_more, offered_all}
 use Rattle.break_core.proofs.offering.offer_each_waiting.Goals as goal
 
 pub loop-index-init : goal.loop-index-init
@@ -17,13 +17,9 @@ loop-index-init c =
     let place = c.args.at.now.place in
     record {
       held = c.requires.held;
+      next = c.requires.next;
       offered = offered_none table params c.args.alone c.args.lives.now place (row_at params.first_lines table place c.args.row.now);
     }
-
-pub offer_best-requires-clause-earlier : goal.offer_best-requires-clause-earlier
-offer_best-requires-clause-earlier c =
-    let within : c.loop-index.index < length c.args.lives.now = search rules in
-    (c.requires.can.each c.loop-index.index _ (slice_get-get_or c.args.lives.now c.loop-index.index _ within)).earlier
 
 pub offer_best-requires-clause-entries : goal.offer_best-requires-clause-entries
 offer_best-requires-clause-entries c =
@@ -39,7 +35,7 @@ offer_best-requires-clause-best c =
 pub offer_best-requires-clause-held : goal.offer_best-requires-clause-held
 offer_best-requires-clause-held c =
     let within : c.loop-index.index < length c.args.lives.now = search rules in
-    c.loop-index.invariant.held (c.requires.can.uncounted (omega (arith, within)))
+    c.loop-index.invariant.next _ (slice_get-get_or c.args.lives.now c.loop-index.index _ within)
 
 pub loop-index-preserved : goal.loop-index-preserved
 loop-index-preserved c =
@@ -51,7 +47,10 @@ loop-index-preserved c =
     let none = c.requires.can.uncounted (omega (arith, within)) in
     let now : Row = record { offers = c.offer_best.new.offers; counted = c.loop-index.row.counted } in
     record {
-      held = λ _. c.offer_best.ensures.held;
+      held = λ _. held_on table place c.loop-index.index lives _ c.offer_best.new.offers (slice_get-get_or lives c.loop-index.index _ within)
+          c.requires.can.each c.offer_best.ensures.held;
+      next = next_on table c.loop-index.index lives _ c.offer_best.new.offers (slice_get-get_or lives c.loop-index.index _ within)
+          c.requires.can.rising c.offer_best.ensures.held;
       offered = offered_more table params c.args.alone lives place c.loop-index.index _ (row_at params.first_lines table place c.args.row.now)
           (row_at params.first_lines table place c.loop-index.row) (row_at params.first_lines table place now) none
           (slice_get-get_or lives c.loop-index.index _ within)

@@ -1,4 +1,4 @@
-use Rattle.std.proofs.Common.{◌≡◌, ◌∙◌, ◌<◌, length, to_z, of_z, w32, refl, ap, sym, subst, arith}
+use Rattle.std.proofs.Common.{◌≡◌, ◌∙◌, ◌+◌, ◌<◌, length, to_z, of_z, w32, refl, ap, sym, subst, arith}
 use Rattle.std.proofs.lemmas.Int.{ints}
 use Rattle.break_lines.specs.Costs.{line_alone}
 use Rattle.break_core.specs.declared.row.Row.{Row}
@@ -6,16 +6,13 @@ use Rattle.break_lines.specs.Sizes.{fits_of_sums}
 use Rattle.break_core.specs.Private.Filling.{IsOf, CanOffer, IsOfferingUnless}
 use Rattle.break_core.proofs.BestOffers.{best_line, none_line}
 use Rattle.break_core.specs.Private.Offers.{row_at}
-use Rattle.break_core.proofs.Offers.{kind_true, kind_false, row_counted, row_wide, same_row}
+use Rattle.break_core.proofs.Offers.{kind_true, kind_false, row_counted, row_wide, same_row, offers_later}
 use Rattle.break_core.proofs.BestEntries.{best_in_row}
 use Rattle.break_core.proofs.Stopping.{row_left_out}
 use Rattle.break_core.proofs.offering.offer_line.Goals as goal
 
 pub line_alone-requires-clause-penalty : goal.line_alone-requires-clause-penalty
 line_alone-requires-clause-penalty g c = omega (arith, ints, c.requires.can.penalty_bounded)
-
-pub offer_best-requires-clause-earlier : goal.offer_best-requires-clause-earlier
-offer_best-requires-clause-earlier g c = c.requires.can.earlier
 
 pub offer_best-requires-clause-entries : goal.offer_best-requires-clause-entries
 offer_best-requires-clause-entries g c =
@@ -120,3 +117,11 @@ returns-then-left_out-clause-untouched g c = λ _. same_row c.args.row.now
 
 pub returns-in_default-clause-untouched : goal.returns-in_default-clause-untouched
 returns-in_default-clause-untouched g c = λ _. same_row c.args.row.now
+
+pub returns-then-left_out-clause-held : goal.returns-then-left_out-clause-held
+returns-then-left_out-clause-held g c = λ none.
+    offers_later c.args.at.now.table.now c.args.live.now.group.place (c.args.live.now.group.place + 1) c.args.row.now.offers (omega arith) (c.requires.held none)
+
+pub returns-in_default-clause-held : goal.returns-in_default-clause-held
+returns-in_default-clause-held g c = λ none.
+    offers_later c.args.at.now.table.now c.args.live.now.group.place (c.args.live.now.group.place + 1) c.args.row.now.offers (omega arith) (c.requires.held none)

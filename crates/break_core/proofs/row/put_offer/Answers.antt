@@ -13,38 +13,29 @@ use Rattle.break_core.proofs.row.put_offer.Goals as goal
 abbrev none : Offer
 none = record { overhang = pos 0; demerits = pos 0; index = 0 }
 
-pub replaces-requires-clause-held_bounded : goal.replaces-requires-clause-held_bounded
-replaces-requires-clause-held_bounded c =
-    let offers = c.args.offers.now in
-    let slot = c.class_index-slot.result in
-    let at : slice_get offers (class_index c.args.class) ≡ Some (get_or offers slot none) =
-    ap (slice_get offers) (sym c.class_index-slot.ensures.rank)
-    ∙ slice_get-get_or offers slot none (omega (arith, c.class_index-slot.ensures.rank_bounded, c.told-offers)) in
-    c.requires.held_bounded (get_or offers slot none) at
-
 pub returns-then-replaces-clause-put : goal.returns-then-replaces-clause-put
-returns-then-replaces-clause-put c = λ place e present.
+returns-then-replaces-clause-put c = λ table low place e present later are.
     let offers = c.args.offers.now in
     let slot = c.class_index-slot.result in
     let class = c.args.class in
     let at : slice_get offers (class_index class) ≡ Some (get_or offers slot none) =
     ap (slice_get offers) (sym c.class_index-slot.ensures.rank)
     ∙ slice_get-get_or offers slot none (omega (arith, c.class_index-slot.ensures.rank_bounded, c.told-offers)) in
-    subst (λ n. IsPut (entry_with_totals e c.args.offered.index place (totals_of class c.args.offered)) (shown_from c.args.table.now place 0 offers)
-    (shown_from c.args.table.now place 0 (set offers n c.args.offered))) (sym c.class_index-slot.ensures.rank)
-    (put_new c.args.table.now place offers class (get_or offers slot none) c.args.offered e at present c.requires.real
-    (c.requires.held_bounded (get_or offers slot none) at) (c.replaces.ensures.yes c.if-replaces.true))
+    subst (λ n. IsPut (entry_with_totals e c.args.offered.index place (totals_of class c.args.offered)) (shown_from table place 0 offers)
+    (shown_from table place 0 (set offers n c.args.offered))) (sym c.class_index-slot.ensures.rank)
+    (put_new table low place offers class (get_or offers slot none) c.args.offered e at present c.requires later are
+    (c.replaces.ensures.yes c.if-replaces.true))
 
 pub returns-else-replaces-clause-put : goal.returns-else-replaces-clause-put
-returns-else-replaces-clause-put c = λ place e present.
+returns-else-replaces-clause-put c = λ table low place e present later are.
     let offers = c.args.offers.now in
     let slot = c.class_index-slot.result in
     let class = c.args.class in
     let at : slice_get offers (class_index class) ≡ Some (get_or offers slot none) =
     ap (slice_get offers) (sym c.class_index-slot.ensures.rank)
     ∙ slice_get-get_or offers slot none (omega (arith, c.class_index-slot.ensures.rank_bounded, c.told-offers)) in
-    put_kept c.args.table.now place offers class (get_or offers slot none) c.args.offered e at present (c.replaces.ensures.kept c.if-replaces.false)
-    (c.requires.held_bounded (get_or offers slot none) at) (c.replaces.ensures.no c.if-replaces.false)
+    put_kept table low place offers class (get_or offers slot none) c.args.offered e at present (c.replaces.ensures.kept c.if-replaces.false) are
+    (c.replaces.ensures.no c.if-replaces.false)
 
 pub returns-then-replaces-clause-either : goal.returns-then-replaces-clause-either
 returns-then-replaces-clause-either c = inr (ap (λ n. set c.args.offers.now n c.args.offered) c.class_index-slot.ensures.rank)
