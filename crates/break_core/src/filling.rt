@@ -30,6 +30,9 @@ struct FilledTable {
     live: LiveGroups,
 }
 
+/// For how many groups there is room from the start. Few paragraphs need more.
+const USUAL_GROUPS: usize = 32;
+
 /// Whether entries were offered before, or were offered now.
 #[inline(always)]
 fn either(before: bool, now: bool) -> bool
@@ -194,12 +197,10 @@ fn fill_places<M: Meter, const COUNTED: bool>(
 {
     // Most places have at least one entry.
     let table = Vec::with_capacity(alloc, meter.places() + 1)?;
+    let list = Vec::with_capacity(alloc, USUAL_GROUPS)?;
     let mut reached = FilledTable {
         table,
-        live: LiveGroups {
-            list: Vec::new(alloc),
-            first: 0,
-        },
+        live: LiveGroups { list, first: 0 },
     };
     reached.table.push(Entry::first())?;
     let group = ActiveGroup {

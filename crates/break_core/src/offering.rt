@@ -146,7 +146,7 @@ fn better_each(table: &[Entry], a: [Offer; 4], b: [Offer; 4]) -> [Offer; 4]
 }
 
 /// The entries of a group that make the best offers, by the class of the line, if no lines are counted.
-#[inline]
+#[inline(always)]
 fn best_of(table: &[Entry], group: ActiveGroup, params: &Params) -> [Offer; 4]
     requires has_entries { group.start < group.end }
     requires group_bounded { group.end ≤ length table.now }
@@ -162,7 +162,7 @@ fn best_of(table: &[Entry], group: ActiveGroup, params: &Params) -> [Offer; 4]
 }
 
 /// The entries of a group that make the best offers, if it has entries and no lines are counted; else nothing is known of the offers.
-#[inline]
+#[inline(always)]
 fn best_offers(table: &[Entry], group: ActiveGroup, params: &Params) -> [Offer; 4]
     requires group_bounded { group.end ≤ length table.now }
     ensures { params.now.first_lines ≡ 0 → group.start < group.end → AreBestFor table.now params.now group.start group.end result }
@@ -177,7 +177,7 @@ fn best_offers(table: &[Entry], group: ActiveGroup, params: &Params) -> [Offer; 
 }
 
 /// A group from which no line has been tried yet.
-#[inline]
+#[inline(always)]
 pub(crate) fn new_live(table: &[Entry], group: ActiveGroup, params: &Params) -> Live
     requires group_bounded { group.end ≤ length table.now }
     ensures group { result.group ≡ group }
