@@ -1,5 +1,5 @@
 -- The entries of a group that make the best offers, known by their totals.
-use Rattle.std.proofs.Common.{◌≡◌, ◌∙◌, ℕ, zero, suc, ◌+◌, ◌<◌, ◌≤◌, ◌++◌, Bool, true, false, min, List, [], ◌∷◌, length, length-append, refl, ap, sym, subst, arith, Option, Some}
+use Rattle.std.proofs.Common.{◌≡◌, ◌∙◌, ℕ, zero, suc, ◌+◌, ◌<◌, ◌≤◌, ◌++◌, true, false, min, List, [], ◌∷◌, length, length-append, refl, ap, sym, subst, arith, Option, Some}
 use Rattle.std.specs.Prelude.{ℤ, ◌+ℤ◌, nat_lt, slice_get}
 use Rattle.std.proofs.Math.Logic.{◌⊎◌, inl, inr}
 use Rattle.std.proofs.lemmas.Bool.{cases_Bool}
@@ -13,7 +13,7 @@ use Rattle.break_lines.specs.declared.state.Fitness.TheVariants.{VeryLoose, Loos
 use Rattle.break_lines.specs.declared.state.LineCost.{LineCost}
 use Rattle.break_lines.specs.Costs.{adjacent_demerits, line_after}
 use Rattle.break_lines.specs.Orders.{NotAfter}
-use Rattle.break_lines.specs.Problems.{class_index, end_after, tie_numbers}
+use Rattle.break_lines.specs.Problems.{class_index, end_after}
 use Rattle.break_lines.specs.SmallCosts.{IsSmallAlone}
 use Rattle.break_lines.specs.Tables.{Entry, compared_numbers, IsPut}
 use Rattle.break_lines.specs.Totals.{AreSmallTotals, entry_with_totals}
@@ -22,9 +22,9 @@ use Rattle.break_lines.proofs.Entries.{get_at, get_left}
 use Rattle.break_core.specs.declared.active_list.Live.{Live}
 use Rattle.break_core.specs.declared.row.Offer.{Offer}
 use Rattle.break_core.specs.declared.row.Row.{Row}
-use Rattle.break_core.specs.Private.Active.{HasBest, HaveBest}
+use Rattle.break_core.specs.Private.Active.{HaveBest}
 use Rattle.break_core.specs.Private.Filling.{IsOf, IsBestOffer, IsOfferingBest, offer_from}
-use Rattle.break_core.specs.Private.Offers.{no_entry, totals_of, shown_from, row_at, IsOffer, offer_numbers, IsAsGood, offer_before, IsBestFor, AreBestFor, IsBefore, AreBefore, IsBetter, AreBetter, AreNumbered}
+use Rattle.break_core.specs.Private.Offers.{no_entry, totals_of, shown_from, row_at, IsOffer, offer_numbers, offer_before, IsBestFor, AreBestFor, IsBefore, AreBefore, IsBetter, AreBetter, AreNumbered}
 use Rattle.break_core.proofs.Active.{shorter}
 use Rattle.break_core.proofs.BestOffers.{best_offered}
 use Rattle.break_core.proofs.Offers.{shown_ordered}

@@ -1,6 +1,6 @@
 -- The best offer of a group, if no lines are counted.
 use Rattle.std.proofs.Common.{◌≡◌, ◌∙◌, ℕ, ◌+◌, ◌<◌, ◌≤◌, Bool, true, false, List, min, refl, ap, sym, subst, arith, Option, Some, None}
-use Rattle.std.specs.Prelude.{ℤ, nat_lt, slice_get, ◌&&◌}
+use Rattle.std.specs.Prelude.{ℤ, nat_lt, ◌&&◌}
 use Rattle.std.proofs.Math.Logic.{◌⊎◌, inl, inr}
 use Rattle.std.proofs.lemmas.Bool.{cases_Bool, cond-false}
 use Rattle.std.proofs.lemmas.Option.{same_Some}
@@ -12,8 +12,8 @@ use Rattle.break_lines.specs.declared.state.BreakState.{BreakState}
 use Rattle.break_lines.specs.Orders.{NotAfter}
 use Rattle.break_lines.specs.Problems.{Problem}
 use Rattle.break_lines.specs.Ways.{last_forced_below}
-use Rattle.break_lines.specs.Tables.{Entry, extended_entry, compared_numbers, offer, IsOffered, IsRow, IsKept, IsPut}
-use Rattle.break_lines.proofs.Dictionary.{state_same, not_after_refl, not_after_trans}
+use Rattle.break_lines.specs.Tables.{Entry, extended_entry, compared_numbers, offer, IsOffered, IsRow, IsPut}
+use Rattle.break_lines.proofs.Dictionary.{state_same}
 use Rattle.break_lines.proofs.Reached.{offer_is}
 use Rattle.break_lines.proofs.Rows.{row_best}
 use Rattle.break_lines.specs.declared.sums.Sums.{Sums}

@@ -1,12 +1,9 @@
 -- The entries and the lines of a group.
-use Rattle.std.proofs.Common.{◌≡◌, ◌∙◌, ℕ, zero, suc, ◌+◌, ◌<◌, ◌≤◌, ◌++◌, cond, List, [], ◌∷◌, length, Option, None, ap, sym, arith}
-use Rattle.std.proofs.lemmas.Option.{same_Some}
+use Rattle.std.proofs.Common.{◌≡◌, ◌∙◌, ℕ, ◌≤◌, cond, List, Option, None, ap, sym}
 use Rattle.std.specs.Prelude.{ℤ, nat_lt, if◌then◌else◌}
 use Rattle.break_lines.specs.declared.group.ActiveGroup.{ActiveGroup}
 use Rattle.break_lines.specs.Problems.{Problem}
-use Rattle.break_lines.specs.Tables.{Entry, first_entry, IsTable, IsRow, row_entries}
-use Rattle.break_lines.proofs.Bellman.{next_table}
-use Rattle.break_lines.proofs.Live.{new_group}
+use Rattle.break_lines.specs.Tables.{Entry, IsTable}
 use Rattle.break_lines.specs.Private.Live.{IsGroup}
 use Rattle.node_core.specs.declared.params.Params.{Params}
 use Rattle.break_lines.specs.declared.sums.Sums.{Sums}

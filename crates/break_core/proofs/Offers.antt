@@ -1,20 +1,20 @@
 -- Offers that are kept without their entries, and the row that they stand for.
-use Rattle.std.proofs.Common.{◌≡◌, ◌∙◌, ℕ, zero, suc, ◌+◌, ◌<◌, ◌≤◌, Bool, true, false, cond, List, [], ◌∷◌, ◌++◌, length, length-append, set, replicate, refl, ap, sym, subst, arith, Option, Some, None}
+use Rattle.std.proofs.Common.{◌≡◌, ◌∙◌, ℕ, zero, suc, ◌+◌, ◌<◌, ◌≤◌, true, false, List, [], ◌∷◌, ◌++◌, length, set, replicate, refl, ap, sym, subst, arith, Option, Some, None}
 use Rattle.std.specs.Prelude.{ℤ, not, int_lt, slice_get, ◌==◌, ◌<ℤ◌, ◌≤ℤ◌}
 use Rattle.std.proofs.Math.Logic.{◌⊎◌, inl, inr}
 use Rattle.std.proofs.lemmas.Bool.{cases_Bool, cases_eq, cond-true, cond-false}
 use Rattle.std.proofs.lemmas.Int.{ints}
 use Rattle.std.proofs.lemmas.List.{append_assoc, append-nil}
-use Rattle.std.proofs.lemmas.Option.{same_Some, slice_get_within}
+use Rattle.std.proofs.lemmas.Option.{same_Some}
 use Rattle.break_lines.specs.declared.state.Fitness.{Fitness}
 use Rattle.break_lines.specs.declared.state.Fitness.TheVariants.{VeryLoose, Loose, Decent, Tight}
 use Rattle.break_lines.specs.declared.state.BreakState.{BreakState}
 use Rattle.break_lines.specs.Orders.{NotAfter}
 use Rattle.break_lines.specs.Problems.{class_index, tie_numbers}
-use Rattle.break_lines.specs.Tables.{Entry, slot, slots, compared_numbers, row_entries, IsFirst, IsKept, IsPut}
+use Rattle.break_lines.specs.Tables.{Entry, slot, slots, compared_numbers, row_entries, IsFirst, IsPut}
 use Rattle.break_lines.specs.Totals.{entry_with_totals}
 use Rattle.break_lines.proofs.Dictionary.{rank_apart, not_after_refl, not_after_later}
-use Rattle.break_lines.proofs.Entries.{get_at, get_left, get-set_same, get-set_other, set-get_same}
+use Rattle.break_lines.proofs.Entries.{get_left, get-set_other, set-get_same}
 use Rattle.break_core.specs.declared.row.Offer.{Offer}
 use Rattle.break_core.specs.declared.row.Row.{Row}
 use Rattle.break_core.specs.Private.Filling.{IsKind}

@@ -59,7 +59,8 @@ fn try_lines<M: Meter, const COUNTED: bool>(
     requires penalty { at.now.penalty ≡ (M.facts meter.old).penalty at.now.place }
     requires penalty_bounded { at.now.penalty <ℤ pos 10000 }
     requires filled { IsFilled (problem_leaving_out (M.facts meter.old) at.now.rules.now.params.now at.now.rules.now.bound at.now.rules.now.stop_rule)
-        (stops_at (M.facts meter.old) at.now.rules.now.params.now at.now.rules.now.stop_rule) at.now.place at.now.table.now (groups_of (live_of lives.old)) }
+        (stops_at (M.facts meter.old) at.now.rules.now.params.now at.now.rules.now.stop_rule) at.now.place at.now.table.now
+        (groups_of (live_of lives.old)) }
     requires over { AreOver (M.facts meter.old) at.now.rules.now.params.now at.now.place (live_of lives.old) }
     requires best { HaveBest at.now.table.now at.now.rules.now.params.now (live_of lives.old) }
     requires first_bounded { lives.old.first ≤ length lives.old.list.items }
@@ -67,12 +68,14 @@ fn try_lines<M: Meter, const COUNTED: bool>(
     requires may { MayStop at.now.rules.now.stop_rule (M.facts meter.old) at.now.rules.now.params.now at.now.rules.now.bound }
     requires waits { at.now.rules.now.waits ≡ true → IsEven (M.facts meter.old) }
     requires trials_bounded { CountsMayGrow 1 (M.trials meter.old) }
-    ensures row { IsRow (problem_leaving_out (M.facts meter.old) at.now.rules.now.params.now at.now.rules.now.bound at.now.rules.now.stop_rule) at.now.table.now
-        at.now.place (length at.now.table.now) (row_at at.now.rules.now.params.now.first_lines at.now.table.now at.now.place row.new) }
+    ensures row { IsRow (problem_leaving_out (M.facts meter.old) at.now.rules.now.params.now at.now.rules.now.bound at.now.rules.now.stop_rule)
+        at.now.table.now at.now.place (length at.now.table.now)
+        (row_at at.now.rules.now.params.now.first_lines at.now.table.now at.now.place row.new) }
     ensures held { at.now.rules.now.params.now.first_lines ≡ 0 → AreOffers at.now.table.now at.now.place row.new.offers }
     ensures live { is_forced ((M.facts meter.old).penalty at.now.place) ≡ false →
         IsActive (problem_leaving_out (M.facts meter.old) at.now.rules.now.params.now at.now.rules.now.bound at.now.rules.now.stop_rule)
-        (stops_at (M.facts meter.old) at.now.rules.now.params.now at.now.rules.now.stop_rule) at.now.table.now (at.now.place + 1) at.now.place 0 0 (groups_of (live_of lives.new)) }
+        (stops_at (M.facts meter.old) at.now.rules.now.params.now at.now.rules.now.stop_rule) at.now.table.now (at.now.place + 1) at.now.place 0 0
+        (groups_of (live_of lives.new)) }
     ensures over { AreOver (M.facts meter.old) at.now.rules.now.params.now (at.now.place + 1) (live_of lives.new) }
     ensures best { HaveBest at.now.table.now at.now.rules.now.params.now (live_of lives.new) }
     ensures first_bounded { lives.new.first ≤ length lives.new.list.items }
@@ -164,7 +167,12 @@ fn add_place<M: Meter, const COUNTED: bool>(
         return Ok(());
     }
     let start = reached.table.len();
-    move_row(&mut reached.table, row, rules.params.first_lines.get(), place)?;
+    move_row(
+        &mut reached.table,
+        row,
+        rules.params.first_lines.get(),
+        place,
+    )?;
     let group = ActiveGroup {
         place,
         start,

@@ -7,7 +7,8 @@ ghost use Rattle.break_lines.specs.Costs.{line_fit, is_loosest};
 ghost use Rattle.break_lines.specs.Sizes.{fits_of_sums, IsSmallLineFits};
 ghost use Rattle.break_lines.specs.SmallCosts.{IsSmallSums, IsSmallAlone};
 ghost use Rattle.break_core.specs.Private.Filling.{IsKind, IsJudged, IsOf, CanOffer, IsOffering, IsOfferingUnless, IsOfferingBest};
-ghost use Rattle.break_core.specs.Private.Offers.{shown_from, row_at, IsSameRow, AreOffers, AreBefore, AreNumbered, IsBefore, IsBetter, AreBetter, AreBestFor};
+ghost use Rattle.break_core.specs.Private.Offers.{shown_from, row_at, AreOffers, IsBefore, AreBefore, IsBetter, AreBetter, AreBestFor};
+ghost use Rattle.break_core.specs.Private.Offers.{AreNumbered, IsSameRow};
 ghost use Rattle.break_core.specs.Private.Active.{HasBest, AreOffersBefore, CanOfferWaiting, IsOfferingEach, IsOfferingWaiting};
 
 use crate::active_list::Live;
@@ -37,12 +38,7 @@ pub(crate) struct JudgedLine {
 
 /// Offers the entries of a group for a place, by a line from there that was tried and judged. The line is judged for firstsize and for hsize at once,
 /// and costs that are the same for all entries are computed once, so that there is one trial for each pair of places.
-fn offer_each(
-    row: &mut Vec<Option<Entry>>,
-    at: &TriedPlace,
-    group: ActiveGroup,
-    line: &LineFits,
-)
+fn offer_each(row: &mut Vec<Option<Entry>>, at: &TriedPlace, group: ActiveGroup, line: &LineFits)
     requires can { CanOffer at.now.rules.now.params.now.first_lines row.old.items at.now.table.now group at.now.place at.now.penalty }
     requires fit_bounded { IsSmallLineFits line.now }
     ensures row { IsOffering at.now.table.now at.now.rules.now.params.now at.now.rules.now.bound group at.now.place at.now.penalty line.now
@@ -231,7 +227,8 @@ pub(crate) fn judge(sums: Sums, params: &Params) -> JudgedLine
 pub(crate) fn is_overfull<const COUNTED: bool>(line: &JudgedLine, params: &Params) -> bool
     requires kind { IsKind COUNTED params.now.first_lines }
     requires judged { IsJudged params.now line.now }
-    ensures { result ≡ ((fits_of_sums params.now line.now.sums).first.overfull && (fits_of_sums params.now line.now.sums).rest.overfull) }
+    ensures { result
+        ≡ ((fits_of_sums params.now line.now.sums).first.overfull && (fits_of_sums params.now line.now.sums).rest.overfull) }
 {
     if COUNTED {
         return fit_both(&line.sums, params).is_overfull();
@@ -239,8 +236,8 @@ pub(crate) fn is_overfull<const COUNTED: bool>(line: &JudgedLine, params: &Param
     line.fit.overfull
 }
 
-/// Whether all later groups wait after a line: groups wait, and the line is so loose that a line that is stretched by more costs the same in the pass.
-/// No group waits if lines are counted.
+/// Whether all later groups wait after a line: groups wait, and the line is so loose that a line that is stretched by more costs the same in the
+/// pass. No group waits if lines are counted.
 #[inline(always)]
 pub(crate) fn all_wait<const COUNTED: bool>(line: &JudgedLine, rules: &Rules) -> bool
     requires kind { IsKind COUNTED rules.now.params.now.first_lines }

@@ -1,7 +1,7 @@
 //! The row of a place: the best offers so far. If no lines are counted, they are kept without their entries.
 
-ghost use Rattle.std.specs.Prelude.{◌≡◌, ◌<◌, ◌≤◌, ◌+◌, ◌++◌, ◌⊎◌, ◌∷◌, ℕ, List, [], true, false, length, replicate, set, slice_get, vec_len, vec_capacity};
-ghost use Rattle.std.specs.Prelude.{Some, None, IfOk, OnOk};
+ghost use Rattle.std.specs.Prelude.{◌≡◌, ◌<◌, ◌≤◌, ◌+◌, ◌++◌, ◌⊎◌, ◌∷◌, ℕ, List, [], true, false, length, set, slice_get};
+ghost use Rattle.std.specs.Prelude.{vec_len, vec_capacity, Some, IfOk, OnOk};
 ghost use Rattle.break_lines.specs.Orders.{NotAfter};
 ghost use Rattle.break_lines.specs.Problems.{class_index, max_places, tie_numbers};
 ghost use Rattle.break_lines.specs.Tables.{Entry, slots, row_entries, IsPut};
@@ -174,7 +174,12 @@ pub(crate) fn new_row(alloc: Global, cut: usize) -> Result<Row, AllocError>
 
 /// Appends the offers of the row of a place to a table, and empties the row.
 #[inline(always)]
-pub(crate) fn move_row(table: &mut Vec<Entry>, row: &mut Row, cut: usize, place: usize) -> Result<(), AllocError>
+pub(crate) fn move_row(
+    table: &mut Vec<Entry>,
+    row: &mut Row,
+    cut: usize,
+    place: usize,
+) -> Result<(), AllocError>
     requires places { place ≤ max_places }
     requires wide { length (row_at cut table.old.items place row.old) ≡ slots cut }
     requires held { cut ≡ 0 → AreOffers table.old.items place row.old.offers }

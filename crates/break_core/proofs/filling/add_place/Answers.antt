@@ -1,4 +1,4 @@
-use Rattle.std.proofs.Common.{◌≡◌, ◌∙◌, ◌+◌, ◌++◌, [], None, length, length-append, ◌≤◌, ◌<◌, replicate, cond, false, refl, ap, sym, subst, rules, arith}
+use Rattle.std.proofs.Common.{◌≡◌, ◌∙◌, ◌+◌, ◌++◌, [], length, length-append, ◌≤◌, ◌<◌, cond, false, refl, ap, sym, subst, rules, arith}
 use Rattle.break_lines.specs.declared.group.ActiveGroup.{ActiveGroup}
 use Rattle.break_lines.specs.Tables.{slots, IsRow, row_entries}
 use Rattle.break_lines.specs.Legal.{is_forced}

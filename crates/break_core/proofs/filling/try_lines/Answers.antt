@@ -1,5 +1,5 @@
-use Rattle.std.proofs.Common.{◌≡◌, ◌∙◌, ◌+◌, ◌-◌, ◌≤◌, ◌<◌, ◌++◌, [], ◌∷◌, Some, None, Bool, true, false, ℕ, cond, length, length-set, take, drop, set, to_z, of_z, w32, w64, refl, ap, sym, subst, rules, arith}
-use Rattle.std.specs.Prelude.{slice_get, vec_len, ◌&&◌}
+use Rattle.std.proofs.Common.{◌≡◌, ◌∙◌, ◌+◌, ◌-◌, ◌≤◌, ◌<◌, ◌++◌, [], ◌∷◌, Some, None, Bool, true, false, ℕ, cond, length, length-set, take, drop, set, to_z, of_z, w64, refl, ap, sym, subst, rules, arith}
+use Rattle.std.specs.Prelude.{slice_get, vec_len}
 use Rattle.std.proofs.Math.Logic.{◌⊎◌, inl, inr}
 use Rattle.std.proofs.lemmas.Bool.{cases_Bool, cond-true, cond-false}
 use Rattle.std.proofs.lemmas.Int.{ints}

@@ -1,11 +1,10 @@
 use Rattle.std.proofs.Common.{◌≡◌, ◌∙◌, ◌+◌, ◌+ℤ◌, to_z, of_z, w64, length, get_or, rules, ap, sym, arith, Some}
-use Rattle.std.specs.Prelude.{pos, slice_get, ◌⊎◌, ◌<◌}
-use Rattle.std.proofs.Math.Logic.{inl, inr}
+use Rattle.std.specs.Prelude.{pos, slice_get}
 use Rattle.std.proofs.lemmas.Int.{ints}
-use Rattle.std.proofs.lemmas.Option.{slice_get-get_or, slice_get_within}
+use Rattle.std.proofs.lemmas.Option.{slice_get-get_or}
 use Rattle.break_lines.specs.Problems.{class_index}
 use Rattle.break_core.specs.declared.row.Offer.{Offer}
-use Rattle.break_core.specs.Private.Offers.{no_entry, shown_from, IsOffer}
+use Rattle.break_core.specs.Private.Offers.{shown_from}
 use Rattle.break_core.proofs.Offers.{offers_later, offers_put}
 use Rattle.break_core.proofs.BestEntries.{offer_by, totals_offered, offer_stands}
 use Rattle.break_core.proofs.offering.offer_best.Goals as goal

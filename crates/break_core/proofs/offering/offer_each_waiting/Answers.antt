@@ -1,10 +1,9 @@
-use Rattle.std.proofs.Common.{◌≡◌, ◌∙◌, ◌<◌, ◌≤◌, length, subst, sym, rules, arith}
+use Rattle.std.proofs.Common.{◌<◌, ◌≤◌, length, rules, arith}
 use Rattle.std.proofs.lemmas.List.{length-map}
 use Rattle.std.proofs.lemmas.Option.{slice_get-get_or}
 use Rattle.break_core.specs.declared.active_list.Live.{Live}
 use Rattle.break_core.specs.declared.row.Row.{Row}
 use Rattle.break_core.specs.Private.Active.{groups_of}
-use Rattle.break_core.specs.Private.Filling.{IsOfferingBest}
 use Rattle.break_core.specs.Private.Offers.{row_at}
 use Rattle.break_core.proofs.BestEntries.{best_in_row}
 use Rattle.break_core.proofs.Waiting.{held_on, next_on, offered_none, offered_more, offered_all}

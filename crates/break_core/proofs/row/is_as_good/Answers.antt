@@ -1,4 +1,4 @@
-use Rattle.std.proofs.Common.{◌≡◌, arith}
+use Rattle.std.proofs.Common.{arith}
 use Rattle.std.proofs.lemmas.Int.{ints}
 use Rattle.break_core.proofs.Offers.{good_tie}
 use Rattle.break_core.proofs.row.is_as_good.Goals as goal
