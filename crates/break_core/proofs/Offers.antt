@@ -30,13 +30,7 @@ tie_first s t a b first is_a is_b =
 pub tie_same : (a b : BreakState) → a ≡ b → NotAfter (tie_numbers (a ∷ [])) (tie_numbers (b ∷ []))
 tie_same a b same = subst (λ x. NotAfter (tie_numbers (a ∷ [])) (tie_numbers (x ∷ []))) same (not_after_refl (tie_numbers (a ∷ [])))
 
--- Offers whose totals differ, or whose totals are the same.
-pub good_overhang : (table : List Entry) (a b : Offer) → a.overhang <ℤ b.overhang → IsAsGood table a b
-good_overhang table a b less e f at_e at_f = inl less
-
-pub good_demerits : (table : List Entry) (a b : Offer) → a.overhang ≡ b.overhang → a.demerits <ℤ b.demerits → IsAsGood table a b
-good_demerits table a b same less e f at_e at_f = inr (same, inl less)
-
+-- Of offers with the same totals the ends before decide.
 pub good_tie :
     (table : List Entry) (a b : Offer)
     → a.overhang ≡ b.overhang → a.demerits ≡ b.demerits
@@ -364,13 +358,7 @@ entries_joined [] ys = refl
 entries_joined (None ∷ xs) ys = entries_joined xs ys
 entries_joined (Some e ∷ xs) ys = ap (λ es. e ∷ es) (entries_joined xs ys)
 
--- An offer is moved to the table, and nothing is moved for none.
-pub moved_none :
-    (table : List Entry) (place : ℕ) (class : Fitness) (o : Offer)
-    → o.index ≡ no_entry → table ≡ table ++ row_entries (shown_offer table place class o ∷ [])
-moved_none table place class o none =
-    sym (append-nil table) ∙ ap (λ x. table ++ row_entries (x ∷ [])) (sym (shown_none table place class o none))
-
+-- An offer is moved to the table.
 pub moved_some :
     (table new : List Entry) (place : ℕ) (class : Fitness) (o : Offer) (e : Entry)
     → o.index < no_entry → slice_get table o.index ≡ Some e → new ≡ table ++ entry_with_totals e o.index place (totals_of class o) ∷ []
