@@ -233,25 +233,33 @@ fn font_file<'f, 'a>(
     file_named(files, font.name).ok_or(FontRefusal::NoFont(font.name))
 }
 
-/// Reads the font of a number that was not read before, and selects it; or gives the number a font that was read for the same name and size. The
-/// faults are those of `select`. A file has few such selections, and `select` stays small without them.
+/// The number of a definition.
+fn number_of(font: &FontDefinition<'_>) -> FontNumber
+    ensures { result.value ≡ font.now.number }
+{
+    FontNumber { value: font.number }
+}
+
+/// Reads the font of the first definition of a number, which was not read before, and selects it; or gives the number a font that was read for the
+/// same name and size. The faults are those of `select`. A file has few such selections, and `select` stays small without them.
 fn select_first<'a>(
     alloc: Global,
     source: &Source<'_, 'a>,
     known: &KnownFonts<'a>,
     fonts: &mut ReadFonts,
-    number: FontNumber,
+    font: &FontDefinition<'a>,
 ) -> Result<(), StepFault<'a>>
     requires sizes { AllByRecursion (λ d. IsFontSize d.size) known.now }
     requires sound { AreSound (file_widths source.now.files.now) known.now fonts.old }
-    requires new { font_place number.value fonts.old ≡ None }
-    ensures ok { OnOk result (Selects (file_widths source.now.files.now) source.now.after_post.now.keys known.now number.value fonts.old fonts.new) }
-    ensures bad { IfErr result (IsSelectFault source.now.files.now source.now.after_post.now.keys known.now fonts.old number.value) }
+    requires first { first_definition_of font.now.number known.now ≡ Some (definition font.now) }
+    requires after_post { has_number source.now.after_post.now.keys font.now.number ≡ true }
+    requires new { font_place font.now.number fonts.old ≡ None }
+    ensures ok { OnOk result (Selects (file_widths source.now.files.now) source.now.after_post.now.keys known.now font.now.number
+        fonts.old fonts.new) }
+    ensures bad { IfErr result (IsSelectFault source.now.files.now source.now.after_post.now.keys known.now fonts.old font.now.number) }
     ensures unchanged { OnErr result (AreUnchanged fonts.old fonts.new) }
 {
-    let Some(font) = definition_in(source.after_post, known, number) else {
-        return Err(StepFault::Pass(PassFault::Broken(DviCause::Font)));
-    };
+    let number = number_of(font);
     let key = key_of(source.files, font);
     if let Some(place) = fonts.place_of_same(key, known, font) {
         fonts.share(number, place)?;
@@ -284,11 +292,11 @@ pub fn select<'a>(
     ensures bad { IfErr result (IsSelectFault source.now.files.now source.now.after_post.now.keys known.now fonts.old number.value) }
     ensures unchanged { OnErr result (AreUnchanged fonts.old fonts.new) }
 {
-    let Some(_font) = definition_in(source.after_post, known, number) else {
+    let Some(font) = definition_in(source.after_post, known, number) else {
         return Err(StepFault::Pass(PassFault::Broken(DviCause::Font)));
     };
     if fonts.choose(number) {
         return Ok(());
     }
-    select_first(alloc, source, known, fonts, number)
+    select_first(alloc, source, known, fonts, font)
 }
