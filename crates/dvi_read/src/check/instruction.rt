@@ -22,7 +22,7 @@ use std::alloc::Global;
 /// Removes the place of a bop from the places that are still to come, and returns whether it was among them. Earlier places are missed. The places
 /// have the last one first. A bop that is not in the chain is refused at its own place; a missed place is refused only at post, since no bop is at it
 /// (it may be inside a special).
-fn is_named(left: &mut &[usize], missed: &mut bool, at: usize) -> bool
+fn take_place(left: &mut &[usize], missed: &mut bool, at: usize) -> bool
     ensures yes { result ≡ true
         → after_bop at missed.old (reverse left.old.now) ≡ Some (record { missed = missed.new; places = reverse left.new.now }) }
     ensures no { result ≡ false → after_bop at missed.old (reverse left.old.now) ≡ None }
@@ -38,7 +38,7 @@ fn is_named(left: &mut &[usize], missed: &mut bool, at: usize) -> bool
 }
 
 /// Checks and records the effect of an instruction on pages and fonts: a bop is in the chain, a definition is right, a selected font has widths.
-fn note<'a>(
+fn check_effect<'a>(
     alloc: Global,
     source: &Source<'_, 'a>,
     walk: &mut Walk<'_, 'a>,
@@ -52,7 +52,7 @@ fn note<'a>(
 {
     match *op {
         Op::Bop { .. } => {
-            if is_named(&mut walk.left, &mut walk.missed, at) {
+            if take_place(&mut walk.left, &mut walk.missed, at) {
                 Ok(())
             } else {
                 Err(StepFault::Pass(PassFault::Broken(DviCause::Pointer)))
@@ -71,7 +71,7 @@ fn note<'a>(
 }
 
 /// Processes an instruction in the pass.
-fn pass_on<'a>(
+fn execute_in_walk<'a>(
     alloc: Global,
     most: usize,
     op: &Op<'a>,
@@ -113,6 +113,6 @@ pub fn step<'a>(
         (IsStepFault source.now.files.now source.now.after_post.now.keys (min max_pushes source.now.ending.now.postamble.stack_depth) at
         (view op.now) walk.old) }
 {
-    pass_on(alloc, most_pushes(source.ending), op, walk)?;
-    note(alloc, source, walk, at, op)
+    execute_in_walk(alloc, most_pushes(source.ending), op, walk)?;
+    check_effect(alloc, source, walk, at, op)
 }

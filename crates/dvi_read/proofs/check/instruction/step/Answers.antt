@@ -9,19 +9,19 @@ use Rattle.dvi_read.proofs.StepLemmas.{note_fault, pass_fault, stepped}
 use Rattle.tfm_core.specs.FileWidths.{file_widths}
 use Rattle.dvi_read.proofs.check.instruction.step.Goals as goal
 
-pub pass_on-requires : goal.pass_on-requires
-pass_on-requires c = c.requires.sound.codes
+pub execute_in_walk-requires : goal.execute_in_walk-requires
+execute_in_walk-requires c = c.requires.sound.codes
 
-pub returns-in_err-pass_on-clause-bad : goal.returns-in_err-pass_on-clause-bad
-returns-in_err-pass_on-clause-bad c =
+pub returns-in_err-execute_in_walk-clause-bad : goal.returns-in_err-execute_in_walk-clause-bad
+returns-in_err-execute_in_walk-clause-bad c =
     let files = c.args.source.now.files.now in
     let after_post = c.args.source.now.after_post.now.keys in
     let most = min 1024 c.args.source.now.ending.now.postamble.stack_depth in
     let i = view c.args.op.now in
-    let fault = c.in_err-pass_on.field-0.0 in
+    let fault = c.in_err-execute_in_walk.field-0.0 in
     handed_on (IsStepFault files after_post most c.args.at i c.args.walk.now) c.from_residual.result (Pass fault) c.from_residual.ensures.1
     (pass_fault files after_post most c.args.at i c.args.walk.now fault c.requires.sound c.requires.current
-    (subst (λ (n : ℕ). BreaksPass n i c.args.walk.now fault) c.most_pushes.ensures c.in_err-pass_on.ensures.bad))
+    (subst (λ (n : ℕ). BreaksPass n i c.args.walk.now fault) c.most_pushes.ensures c.in_err-execute_in_walk.ensures.bad))
 
 pub returns-clause-ok : goal.returns-clause-ok
 returns-clause-ok c =
@@ -29,11 +29,11 @@ returns-clause-ok c =
     let after_post = c.args.source.now.after_post.now.keys in
     let most = min 1024 c.args.source.now.ending.now.postamble.stack_depth in
     let i = view c.args.op.now in
-    let passes = subst (λ (n : ℕ). PassesOn n i c.args.walk.now c.pass_on.new.walk) c.most_pushes.ensures c.in_ok-pass_on.ensures.ok in
-    on_ok_weaker c.note.result
-    (λ (notes : Notes (file_widths files) after_post c.args.at i c.pass_on.new.walk c.note.new.walk).
-    stepped files after_post most c.args.at i c.args.walk.now c.pass_on.new.walk c.note.new.walk c.requires.sound c.requires.current passes notes)
-    c.note.ensures.ok
+    let passes = subst (λ (n : ℕ). PassesOn n i c.args.walk.now c.execute_in_walk.new.walk) c.most_pushes.ensures c.in_ok-execute_in_walk.ensures.ok in
+    on_ok_weaker c.check_effect.result
+    (λ (notes : Notes (file_widths files) after_post c.args.at i c.execute_in_walk.new.walk c.check_effect.new.walk).
+    stepped files after_post most c.args.at i c.args.walk.now c.execute_in_walk.new.walk c.check_effect.new.walk c.requires.sound c.requires.current passes notes)
+    c.check_effect.ensures.ok
 
 pub returns-clause-bad : goal.returns-clause-bad
 returns-clause-bad c =
@@ -41,8 +41,8 @@ returns-clause-bad c =
     let after_post = c.args.source.now.after_post.now.keys in
     let most = min 1024 c.args.source.now.ending.now.postamble.stack_depth in
     let i = view c.args.op.now in
-    let passes = subst (λ (n : ℕ). PassesOn n i c.args.walk.now c.pass_on.new.walk) c.most_pushes.ensures c.in_ok-pass_on.ensures.ok in
-    IfErr-weaker c.note.result (BreaksNote files after_post c.args.at i c.pass_on.new.walk)
+    let passes = subst (λ (n : ℕ). PassesOn n i c.args.walk.now c.execute_in_walk.new.walk) c.most_pushes.ensures c.in_ok-execute_in_walk.ensures.ok in
+    IfErr-weaker c.check_effect.result (BreaksNote files after_post c.args.at i c.execute_in_walk.new.walk)
     (IsStepFault files after_post most c.args.at i c.args.walk.now)
-    (λ fault broken. note_fault files after_post most c.args.at i c.args.walk.now c.pass_on.new.walk fault c.requires.sound c.requires.current passes
-    broken) c.note.ensures.bad
+    (λ fault broken. note_fault files after_post most c.args.at i c.args.walk.now c.execute_in_walk.new.walk fault c.requires.sound c.requires.current passes
+    broken) c.check_effect.ensures.bad

@@ -1,6 +1,6 @@
 use Rattle.std.proofs.Common.{◌≡◌, length, reverse}
 use Rattle.dvi_scan.specs.Reached.{after_bop}
-use Rattle.dvi_read.proofs.check.instruction.is_named.Given as goal
+use Rattle.dvi_read.proofs.check.instruction.take_place.Given as goal
 
 -- The result for the bop is the same with the places that are left.
 abbrev pub invariant-loop-place : goal.invariant-loop-place
