@@ -259,6 +259,7 @@ impl<'d, 'a> SeenItems<'d, 'a> {
         ensures fits { self.new.at < 2 ^ 64 }
         ensures same { self.new.file ≡ self.old.file }
     {
+        // A fact for the proofs: the bound of the place where the walk begins.
         let _at = self.at;
         while self.at < self.file.post {
             if let Some(item) = self.step() {
