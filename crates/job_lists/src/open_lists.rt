@@ -8,7 +8,7 @@ ghost use Rattle.vert_core.specs.Appended.{IsAppended, IsUnappended};
 ghost use Rattle.vert_core.specs.Paragraphs.{break_fault, IsUnset};
 ghost use Rattle.vert_core.specs.Setting.{setting};
 ghost use Rattle.job_machine.specs.State.{nodes_in};
-ghost use Rattle.job_machine.specs.OpenLists.{packed_by, glue_in, box_items, packed_as, packed_list};
+ghost use Rattle.job_machine.specs.OpenLists.{glue_in, box_items, packed_as, packed_list};
 ghost use Rattle.job_machine.specs.Checks.{box_checks, inner_checks, first_refusal};
 ghost use Rattle.job_machine.specs.Effects.{list_with_box};
 
@@ -41,27 +41,20 @@ fn pack_as(
     }
 }
 
-/// The box that a list becomes, or the list where a size does not fit. A paragraph becomes no box.
-fn pack_for(purpose: ListPurpose, params: &Params, list: NodeList) -> Result<PackedBox, TooLarge>
-    ensures value { result ≡ packed_by purpose params.now list }
-    ensures list_returned { IfErr result (λ large. large.list ≡ list) }
-{
-    match purpose {
-        ListPurpose::Box(opening) => pack_as(opening.form, opening.target, params, list),
-        ListPurpose::Paragraph => Err(TooLarge { list }),
-    }
-}
-
-/// The box of a list, which is then empty. None where a size does not fit, and the list is then unchanged.
+/// The box of a list, which is then empty. None where a size does not fit, or the list is a paragraph, which becomes no box; the list is then
+/// unchanged.
 pub(crate) fn pack(open_list: &mut OpenList, alloc: Global, params: &Params) -> Option<PackedBox>
     ensures value { result ≡ packed_list params.now (Some open_list.old) }
     ensures emptied { IfSome result (λ packed. open_list.new ≡ record open_list.old { list = none }) }
     ensures none { result ≡ None → open_list.new ≡ open_list.old }
     ensures list { IfSome result (λ packed. packed.box_node.list ≡ open_list.old.list) }
 {
+    let ListPurpose::Box(opening) = open_list.purpose else {
+        return None;
+    };
     // Packing takes the list itself, so an empty one holds its place.
     let list = replace(&mut open_list.list, NodeList::new(alloc));
-    match pack_for(open_list.purpose, params, list) {
+    match pack_as(opening.form, opening.target, params, list) {
         Ok(packed) => Some(packed),
         Err(large) => {
             open_list.list = large.list;
