@@ -1,6 +1,6 @@
 //! What one line of an input says.
 
-ghost use Rattle.std.specs.Prelude.{◌≡◌, true, IfOk, OnErr, IsOk};
+ghost use Rattle.std.specs.Prelude.{◌≡◌, drop, true, IfOk, OnErr, IsOk};
 ghost use Rattle.std.specs.List.{list_all};
 ghost use Rattle.job_machine.specs.declared.command.Command.{Command as ACommand};
 ghost use Rattle.boxglue_script.specs.declared.line_content.LineContent.{LineContent as ALineContent};
@@ -71,6 +71,13 @@ fn has_printable_bytes(line: &[u8], plain: bool) -> bool
     plain || is_printable(line)
 }
 
+/// The text after the first field of a line, in memory of its own.
+fn text_of(alloc: Global, rest: &[u8]) -> Result<Characters, AllocError>
+    ensures { IfOk result (λ text. text ≡ drop 1 rest.now) }
+{
+    Ok(Characters::new(text_after(rest).to_vec(alloc)?))
+}
+
 /// What a line says that is not passed over: its command, or the cause why it has none. Byte comes first, since a line with a byte that is not
 /// printable is not cut into fields. A text may have any length here: how long a special may be is a limit of the job, so the other commands run. The
 /// error is a refused growth, only where the line gives a command.
@@ -85,11 +92,11 @@ fn command_of(alloc: Global, line: &[u8], plain: bool) -> Result<LineContent, Al
     }
     let (word, rest) = first_field(line);
     if word == b"text".as_slice() {
-        let text = Characters::new(text_after(rest).to_vec(alloc)?);
+        let text = text_of(alloc, rest)?;
         return Ok(LineContent::Command(Command::Text(text)));
     }
     if word == b"special".as_slice() {
-        let text = Characters::new(text_after(rest).to_vec(alloc)?);
+        let text = text_of(alloc, rest)?;
         return Ok(LineContent::Command(Command::Special(text)));
     }
     Fields::new(rest).command(alloc, word)
