@@ -18,7 +18,7 @@ ghost use Rattle.tfm_core.specs.FileWidths.{file_widths};
 use crate::check::before_pages::{BeforePages, find_front};
 use crate::check::checked_file::CheckedFile;
 use crate::check::instruction::most_pushes;
-use crate::check::pages::{check_pages, finish};
+use crate::check::pages::{check_after_pages, check_pages};
 use crate::check::shown_pages::ShownPages;
 use crate::check::walk::Walk;
 use crate::fault::DviFault;
@@ -98,7 +98,7 @@ impl<'a> Dvi<'a> {
             from,
         } = find_front(alloc, bytes)?;
         let mut walk = check_pages(alloc, bytes, files, &ending, from, &chain)?;
-        finish(bytes, &ending, &mut walk)?;
+        check_after_pages(bytes, &ending, &mut walk)?;
         let fonts = fonts_of(walk);
         let file = CheckedFile {
             bytes,

@@ -43,7 +43,7 @@ pub(crate) fn check_pages<'c, 'a>(
 }
 
 /// Ends a walk at the place of post, and reads the part after post.
-pub(crate) fn finish<'a>(
+pub(crate) fn check_after_pages<'a>(
     bytes: &'a [u8],
     ending: &FileEnd,
     walk: &mut Walk<'_, 'a>,

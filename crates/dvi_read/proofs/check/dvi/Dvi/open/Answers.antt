@@ -49,30 +49,30 @@ returns-in_err-walk-clause-refused c =
     handed_on (IsRefused c.args.files.now c.args.bytes.now) c.from_residual-in_err-walk.result fault c.from_residual-in_err-walk.ensures.1
     (refused c.args.files.now c.args.bytes.now fault c.in_err-walk.ensures.bad)
 
-pub returns-in_err-finish-clause-bad : goal.returns-in_err-finish-clause-bad
-returns-in_err-finish-clause-bad c =
+pub returns-in_err-check_after_pages-clause-bad : goal.returns-in_err-check_after_pages-clause-bad
+returns-in_err-check_after_pages-clause-bad c =
     let front = c.in_ok-ending.field-0 in
     let ending = front.ending in
-    let fault = c.in_err-finish.field-0.0 in
-    handed_on (IsDviFault c.args.files.now c.args.bytes.now) c.from_residual-in_err-finish.result fault c.from_residual-in_err-finish.ensures.1
+    let fault = c.in_err-check_after_pages.field-0.0 in
+    handed_on (IsDviFault c.args.files.now c.args.bytes.now) c.from_residual-in_err-check_after_pages.result fault c.from_residual-in_err-check_after_pages.ensures.1
     (checked_fault c.args.files.now c.args.bytes.now ending.post ending.after ending.last (view_postamble ending.postamble) front.chain.items
     front.from c.in_ok-walk.walk
     (walked_chain c.args.files.now c.args.bytes.now ending.post ending.after ending.last (view_postamble ending.postamble) c.deref.result.now
     front.chain.items front.from c.in_ok-walk.walk c.deref.ensures.value c.in_ok-walk.ensures.ok) fault
-    c.in_err-finish.ensures.bad)
+    c.in_err-check_after_pages.ensures.bad)
 
-pub returns-in_err-finish-clause-refused : goal.returns-in_err-finish-clause-refused
-returns-in_err-finish-clause-refused c =
+pub returns-in_err-check_after_pages-clause-refused : goal.returns-in_err-check_after_pages-clause-refused
+returns-in_err-check_after_pages-clause-refused c =
     let front = c.in_ok-ending.field-0 in
     let ending = front.ending in
-    let fault = c.in_err-finish.field-0.0 in
-    handed_on (IsRefused c.args.files.now c.args.bytes.now) c.from_residual-in_err-finish.result fault c.from_residual-in_err-finish.ensures.1
+    let fault = c.in_err-check_after_pages.field-0.0 in
+    handed_on (IsRefused c.args.files.now c.args.bytes.now) c.from_residual-in_err-check_after_pages.result fault c.from_residual-in_err-check_after_pages.ensures.1
     (refused c.args.files.now c.args.bytes.now fault
     (checked_fault c.args.files.now c.args.bytes.now ending.post ending.after ending.last (view_postamble ending.postamble) front.chain.items
     front.from c.in_ok-walk.walk
     (walked_chain c.args.files.now c.args.bytes.now ending.post ending.after ending.last (view_postamble ending.postamble) c.deref.result.now
     front.chain.items front.from c.in_ok-walk.walk c.deref.ensures.value c.in_ok-walk.ensures.ok) fault
-    c.in_err-finish.ensures.bad))
+    c.in_err-check_after_pages.ensures.bad))
 
 pub of-shown-requires : goal.of-shown-requires
 of-shown-requires c =
@@ -85,7 +85,7 @@ of-shown-requires c =
     opened_shows c.args.files.now file ending.after ending.last (view_postamble ending.postamble) walk
     (walked_chain c.args.files.now c.args.bytes.now ending.post ending.after ending.last (view_postamble ending.postamble) c.deref.result.now
     front.chain.items front.from c.in_ok-walk.walk c.deref.ensures.value c.in_ok-walk.ensures.ok) (map marked_page walk.done.items)
-    c.finish.new.walk.known (λ k. (c.type_inv.bytes k).fits) c.in_ok-finish.ensures.ended c.in_ok-finish.ensures.closed (c.fonts_of-fonts.ensures ∙ c.in_ok-finish.ensures.fonts) c.most_pushes.ensures in
+    c.check_after_pages.new.walk.known (λ k. (c.type_inv.bytes k).fits) c.in_ok-check_after_pages.ensures.ended c.in_ok-check_after_pages.ensures.closed (c.fonts_of-fonts.ensures ∙ c.in_ok-check_after_pages.ensures.fonts) c.most_pushes.ensures in
     (all, shows)
 
 pub returns-clause-ok : goal.returns-clause-ok
@@ -99,7 +99,7 @@ returns-clause-ok c =
     opened_shows c.args.files.now file ending.after ending.last (view_postamble ending.postamble) walk
     (walked_chain c.args.files.now c.args.bytes.now ending.post ending.after ending.last (view_postamble ending.postamble) c.deref.result.now
     front.chain.items front.from c.in_ok-walk.walk c.deref.ensures.value c.in_ok-walk.ensures.ok) (map marked_page walk.done.items)
-    c.finish.new.walk.known (λ k. (c.type_inv.bytes k).fits) c.in_ok-finish.ensures.ended c.in_ok-finish.ensures.closed (c.fonts_of-fonts.ensures ∙ c.in_ok-finish.ensures.fonts) c.most_pushes.ensures in
+    c.check_after_pages.new.walk.known (λ k. (c.type_inv.bytes k).fits) c.in_ok-check_after_pages.ensures.ended c.in_ok-check_after_pages.ensures.closed (c.fonts_of-fonts.ensures ∙ c.in_ok-check_after_pages.ensures.fonts) c.most_pushes.ensures in
     subst (λ (pages : List MarkedPage). IsFile (file_widths c.args.files.now) c.args.bytes.now pages) (one_shown file all c.of-shown.result.pages shows.has c.of-shown.ensures.has) is
 
 pub returns-clause-exact : goal.returns-clause-exact
@@ -118,13 +118,13 @@ returns-clause-widths c = λ f.
     let ending = front.ending in
     let bytes = c.args.bytes.now in
     let pages = c.of-shown.result.pages in
-    let same = c.fonts_of-fonts.ensures ∙ c.in_ok-finish.ensures.fonts in
+    let same = c.fonts_of-fonts.ensures ∙ c.in_ok-check_after_pages.ensures.fonts in
     let rest = subst (λ (fonts : ReadFonts). HasRest bytes front.from ending.post c.most_pushes.result fonts [] (Between []) pages) same c.of-shown.ensures.has in
     subst (λ (fonts : ReadFonts). HasGlyphWidths (file_widths c.args.files.now) (definitions (token_instructions f.front ++ token_instructions f.tail)) fonts (marks_of pages)) (sym same)
     (checked_widths c.args.files.now bytes ending.post ending.after ending.last (view_postamble ending.postamble) front.chain.items front.from
     c.in_ok-walk.walk (walked_chain c.args.files.now c.args.bytes.now ending.post ending.after ending.last (view_postamble ending.postamble)
-    c.deref.result.now front.chain.items front.from c.in_ok-walk.walk c.deref.ensures.value c.in_ok-walk.ensures.ok) c.finish.new.walk.known
-    c.most_pushes.result pages c.in_ok-finish.ensures.closed rest f)
+    c.deref.result.now front.chain.items front.from c.in_ok-walk.walk c.deref.ensures.value c.in_ok-walk.ensures.ok) c.check_after_pages.new.walk.known
+    c.most_pushes.result pages c.in_ok-check_after_pages.ensures.closed rest f)
 
 pub returns-clause-space : goal.returns-clause-space
 returns-clause-space c =
@@ -140,17 +140,17 @@ pub returns-in_err-walk-clause-exact : goal.returns-in_err-walk-clause-exact
 returns-in_err-walk-clause-exact c =
     exact_refused c.args.files.now c.args.bytes.now c.from_residual-in_err-walk.result c.in_err-walk.field-0.0 c.from_residual-in_err-walk.ensures.1 c.in_err-walk.ensures.bad
 
-pub returns-in_err-finish-clause-exact : goal.returns-in_err-finish-clause-exact
-returns-in_err-finish-clause-exact c =
+pub returns-in_err-check_after_pages-clause-exact : goal.returns-in_err-check_after_pages-clause-exact
+returns-in_err-check_after_pages-clause-exact c =
     let front = c.in_ok-ending.field-0 in
     let ending = front.ending in
-    let fault = c.in_err-finish.field-0.0 in
-    exact_refused c.args.files.now c.args.bytes.now c.from_residual-in_err-finish.result fault c.from_residual-in_err-finish.ensures.1
+    let fault = c.in_err-check_after_pages.field-0.0 in
+    exact_refused c.args.files.now c.args.bytes.now c.from_residual-in_err-check_after_pages.result fault c.from_residual-in_err-check_after_pages.ensures.1
     (checked_fault c.args.files.now c.args.bytes.now ending.post ending.after ending.last (view_postamble ending.postamble) front.chain.items
     front.from c.in_ok-walk.walk
     (walked_chain c.args.files.now c.args.bytes.now ending.post ending.after ending.last (view_postamble ending.postamble) c.deref.result.now
     front.chain.items front.from c.in_ok-walk.walk c.deref.ensures.value c.in_ok-walk.ensures.ok) fault
-    c.in_err-finish.ensures.bad)
+    c.in_err-check_after_pages.ensures.bad)
 
 pub returns-clause-texts : goal.returns-clause-texts
 returns-clause-texts c = λ f.

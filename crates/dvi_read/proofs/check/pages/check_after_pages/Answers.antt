@@ -6,7 +6,7 @@ use Rattle.dvi_read.proofs.OpenLemmas.{tail_refused}
 use Rattle.dvi_read.specs.Faults.{of_frame}
 use Rattle.dvi_read.specs.Steps.{known_of, places_left, pass_state_of}
 use Rattle.dvi_read.specs.declared.fault.DviFault.TheVariants.{Bad}
-use Rattle.dvi_read.proofs.check.pages.finish.Goals as goal
+use Rattle.dvi_read.proofs.check.pages.check_after_pages.Goals as goal
 
 pub returns-in_err-pages_end-clause-bad : goal.returns-in_err-pages_end-clause-bad
 returns-in_err-pages_end-clause-bad c =
