@@ -151,6 +151,7 @@ impl<D: Device> Job<D> {
         if let Command::Ship(register) = command {
             return ship_page(&mut self.kept, &mut self.writer, self.alloc, *register);
         }
+        // A refused growth becomes the answer OutOfMemory, by `From` of `Refusal`.
         self.kept.obey(command)?
     }
 
