@@ -125,6 +125,7 @@ fn draw_run<B: BoxRef, S: MarkSink<B>>(
         (drawn_after box_node.now begin.now.h begin.now.v (take left.entry.from left.entry.items.now)
         (items_of (drop left.entry.from left.entry.items.now))) }
 {
+    // Two facts for the proofs: the kind of the box, and the bound of the place.
     let _kind = box_node.kind;
     let _h = begin.h;
     let ItemsFrom { items, from } = left;

@@ -259,6 +259,7 @@ pub fn glyph_mark(
     ensures mark { (rest : DrawnPage) → marked_in (Some result) rest ≡ marked_of box_node.now at.h at.v (nodes.Glyph glyph) rest }
     ensures end { IsMarkEnd Kind.Horizontal result }
 {
+    // A fact for the proofs: the kind of the box.
     let _kind = box_node.kind;
     PlacedMark {
         h: at.h,

@@ -185,6 +185,7 @@ impl<'a> Drawing<'a> {
         ensures font { result ≡ true → self.new.font ≡ Some glyph.slot }
         ensures full { result ≡ false → self.new ≡ self.old }
     {
+        // A fact for the proofs: the bound of the place.
         let _h = at.h;
         if !self.ops.push_in_space(glyph.code) {
             return false;
