@@ -118,7 +118,7 @@ pub(crate) struct Outbox {
 }
 
 /// Writes a text if the client reads, and returns whether it still does.
-fn tell<W: Write>(reads: bool, text: &[u8], writer: &mut W) -> bool
+fn send_answers<W: Write>(reads: bool, text: &[u8], writer: &mut W) -> bool
     ensures { IsSent reads result (W.contents writer.old) (W.contents writer.new) text.now }
 {
     if !reads {
@@ -133,7 +133,7 @@ impl Outbox {
         ensures sent { IsSent self.old.reads self.new.reads (W.contents writer.old) (W.contents writer.new) self.old.waiting.items }
         ensures empty { self.new.waiting.items ≡ [] }
     {
-        self.reads = tell(self.reads, &self.waiting, writer);
+        self.reads = send_answers(self.reads, &self.waiting, writer);
         self.waiting.clear();
     }
 

@@ -1,7 +1,7 @@
 -- Nothing for a client that does not read, and the text for one that does.
 use Rattle.boxglue_program.proofs.SessionLaws.{kept_as}
 use Rattle.boxglue_program.proofs.DialogLaws.{sent_by_result}
-use Rattle.boxglue_program.proofs.dialog.tell.Goals as goal
+use Rattle.boxglue_program.proofs.dialog.send_answers.Goals as goal
 
 pub returns-then-not-reads : goal.returns-then-not-reads
 returns-then-not-reads g c = rw c.if-not-reads.true (kept_as (g.W.Write.contents c.args.writer.now))
