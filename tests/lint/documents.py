@@ -284,6 +284,30 @@ def edits(root):
     return f"docs/internal/EVIDENCE.md has no line {line!r}"
 
 
+def fits(root, path):
+    """Whether the pairs of an edit apply in turn: each old text stands once in its file."""
+    texts_of, file, old, pairs = {}, "", "", 0
+    for word, text in re.findall(r"(?m)^(file|old|new): ?(.*)$", read(path)):
+        if word == "file":
+            file = f"{root}/crates/{path.split('/')[-3]}/{text}"
+            texts_of.setdefault(file, read(file))
+        elif word == "old":
+            old = text
+        elif old and texts_of[file].count(old) == 1:
+            texts_of[file] = texts_of[file].replace(old, text)
+            old, pairs = "", pairs + 1
+        else:
+            return False
+    return pairs > 0 and not old
+
+
+def misfits(root):
+    """Edits that cannot be applied. Only those of must-fail/ are tried in every gate."""
+    found = sorted(glob.glob(f"{root}/crates/*/*/*.edit"))
+    wrong = [os.path.relpath(it, root) for it in found if not fits(root, it)]
+    return listed("edits that do not fit their files:", wrong)
+
+
 def cases(_programs, root):
     """The cases, by name."""
     checks = {"README.md of each crate": crates, "links": links, "anchors": anchors}
@@ -292,6 +316,7 @@ def cases(_programs, root):
         "speed in README.md": speed_of_readme,
         "figures of the manual page": figures_of_manual,
     }
-    checks |= {"figures with a source": figures_with_source, "edits": edits}
+    checks |= {"figures with a source": figures_with_source}
+    checks |= {"edits": edits, "edits that fit": misfits}
     for name, check in checks.items():
         yield name, partial(check, root)
