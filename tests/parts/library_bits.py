@@ -5,13 +5,15 @@ turn."""
 import re
 import tempfile
 from functools import partial
+from itertools import product
 
 from common.files import content
-from common.library_inputs import Room, all_inputs
+from common.library_inputs import Input, Room, all_inputs
 from common.part import in_turn
 from common.texts import same
 from models.dvi_reader import list_file
-from models.large_inputs import painted_rows
+from models.dvi_writer import Page, down, dvi_file, put_rule
+from models.large_inputs import PT, bitmap, painted_rows
 from parts.library_calls import ONE_SHEET
 from parts.library_growths import count_wrong, run_calls, write_dvi
 
@@ -45,15 +47,16 @@ def bits_of(rules, dpi, width, height):
         yield int(row.ljust(8 * size, b"0"), 2).to_bytes(size, "big")
 
 
-def wanted(data, fonts, sheet):
-    """What is printed for the first page of a file."""
+def wanted(data, fonts, sheet, page=1):
+    """What is printed for a page of a file."""
     listing, accepted = list_file(data, {name.encode(): its for name, its in fonts.items()})
     if not accepted:
         return b"1 %d 0\n" % len(listing) + listing
     pages = listing.decode().split("page ")[1:]
-    if not pages:
+    if not pages[page - 1 :]:
         return NO_PAGE
-    bits = b"".join(bits_of([tuple(map(int, it)) for it in RULE.findall(pages[0])], *sheet))
+    rules = [tuple(map(int, it)) for it in RULE.findall(pages[page - 1])]
+    bits = b"".join(bits_of(rules, *sheet))
     return b"0 %d 0\n" % len(bits) + bits
 
 
@@ -63,6 +66,8 @@ def bits_wrong(sheets, room, given, data, run):
         printed = run(["paint_bits", "1", *map(str, sheet), "out.dvi", *room.fonts])
         what = "{1} by {2} pixels at {0} dpi".format(*sheet)
         same(what, printed, wanted(data, given.fonts, sheet))
+    printed = run(["paint_bits", "2", *map(str, SHEETS[-1]), "out.dvi", *room.fonts])
+    same("page 2", printed, wanted(data, given.fonts, SHEETS[-1], 2))
     return count_wrong(run(["--refuse", "paint_bits", *ONE_SHEET, "out.dvi", *room.fonts]))
 
 
@@ -76,6 +81,25 @@ def outcome(sheets, change, given, root, archive=None, *_programs):
         data = change(content(f"{path}/out.dvi"))
         room.write("out.dvi", data)
         return bits_wrong(sheets, room, given, data, run)
+
+
+def large_file(root, archive=None, *_programs):
+    """A file above 64 KiB, whose second page has a rule."""
+    page = [down(PT), put_rule(PT, PT)]
+    data = dvi_file([Page(page * 8000), Page(page)], 8000 * PT, PT).data
+    assert len(data) > 1 << 16
+    with tempfile.TemporaryDirectory(prefix="boxglue-library-") as path:
+        room = Room(path, Input("", b""))
+        room.write("out.dvi", data)
+        for number, sheet in product((1, 2), SHEETS[-2:]):
+            words = [str(number), *map(str, sheet), "out.dvi"]
+            printed = run_calls(root, archive, room, ["paint_bits", *words])
+            same(f"page {number}", printed, wanted(data, {}, sheet, number))
+            rules = [(0, at * PT, PT, PT) for at in range(1, 8001 if number == 1 else 2)]
+            text = b"".join(bitmap(rules, *sheet))
+            printed = run_calls(root, archive, room, ["paint", *words])
+            same(f"page {number} as text", printed, b"0 %d 0\n" % len(text) + text)
+    return None
 
 
 def numbers(root, archive=None, *_programs):
@@ -97,7 +121,8 @@ def numbers(root, archive=None, *_programs):
 
 
 def cases(programs, root):
-    """The inputs, one of them on a large sheet, a file without its end, and numbers."""
+    """The inputs, one of them on a large sheet, a file without its end, a large file, and
+    numbers."""
     inputs = {given.name: given for given in all_inputs(root)}
     for name, given in inputs.items():
         yield name, partial(outcome, SHEETS, bytes, given, root, *programs)
@@ -105,4 +130,5 @@ def cases(programs, root):
     yield f"{LARGE_INPUT}_on_a_large_sheet", large
     first, cut_off = next(iter(inputs.values())), lambda data: data[:-9]
     yield "a_file_without_its_end", partial(outcome, SHEETS, cut_off, first, root, *programs)
+    yield "a_file_above_64_KiB", partial(large_file, root, *programs)
     yield "numbers", partial(numbers, root, *programs)
