@@ -14,8 +14,8 @@ use std::os::fd::AsRawFd;
 use std::process::ExitCode;
 use system_host::SystemHost;
 
-/// The text for a word that is not UTF-8. It is that of `clap`, which never gets such a word.
-const NO_TEXT: &str = "\
+/// The message for an argument that is not UTF-8. It is that of `clap`, which never gets such an argument.
+const NOT_UTF8_MESSAGE: &str = "\
 error: invalid UTF-8 was detected in one or more arguments
 
 Usage: boxglue [COMMAND]
@@ -29,7 +29,7 @@ For more information, try '--help'.
 /// right to read the first one.
 const FOLDERS: [&str; 2] = ["/", "."];
 
-/// The file that stands in where no folder can be opened. It can be read and written, and so it is opened for one of both alone.
+/// The file that stands in where no folder can be opened. It can be read and written, so it is opened only for reading or only for writing.
 const NULL: &str = "/dev/null";
 
 /// The number of standard input.
@@ -78,7 +78,7 @@ fn main(rt: HostRuntime) -> ExitCode {
             return ExitCode::from(1);
         }
         Err(_) => {
-            let _ = write_text(&mut errors, NO_TEXT.as_bytes());
+            let _ = write_text(&mut errors, NOT_UTF8_MESSAGE.as_bytes());
             return ExitCode::from(2);
         }
     };
