@@ -7,7 +7,7 @@ ghost use Rattle.boxglue_lib.specs.Views.{streams_of, view_of};
 
 use crate::font_listing::list_fonts;
 use crate::tasks::{list, paint, run_input, session, typeset};
-use crate::telling::{finish, print_version, say, say_out_of_memory, tell};
+use crate::telling::{print_version, report_end, say, say_out_of_memory, tell};
 use boxglue_words::{FileHost, Host, HostParts, StandardInput, Task, WordFault, read_words};
 use std::alloc::Global;
 use std::io::Write;
@@ -50,17 +50,17 @@ fn do_task<H: FileHost, I: StandardInput + Drop, W: Write, E: Write>(
         Task::Version => (print_version(output), host.files),
         Task::Memory => {
             let end = run_input(alloc, host.input, output);
-            (finish(alloc, end, output, errors), host.files)
+            (report_end(alloc, end, output, errors), host.files)
         }
         Task::Typeset { out, fonts } => typeset(alloc, host, out, &fonts, output, errors),
         Task::Session { out, fonts } => session(alloc, host, out, &fonts, output, errors),
         Task::Listing { dvi, fonts } => {
             let end = list(alloc, &host.files, dvi, &fonts, output);
-            (finish(alloc, end, output, errors), host.files)
+            (report_end(alloc, end, output, errors), host.files)
         }
         Task::Fonts { dvi } => {
             let end = list_fonts(alloc, &host.files, dvi, output);
-            (finish(alloc, end, output, errors), host.files)
+            (report_end(alloc, end, output, errors), host.files)
         }
         Task::Painting {
             options,
@@ -68,7 +68,7 @@ fn do_task<H: FileHost, I: StandardInput + Drop, W: Write, E: Write>(
             fonts,
         } => {
             let end = paint(alloc, &host.files, options, dvi, &fonts, output);
-            (finish(alloc, end, output, errors), host.files)
+            (report_end(alloc, end, output, errors), host.files)
         }
     }
 }

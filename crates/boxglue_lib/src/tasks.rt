@@ -14,7 +14,7 @@ use crate::inputs::{read_dvi_inputs, read_script_inputs};
 use crate::printing::{list_file, paint_file};
 use crate::sessions::session_file;
 use crate::task_fault::TaskFault;
-use crate::telling::{finish, tell};
+use crate::telling::{report_end, tell};
 use crate::typesetting::{TypesetEnd, typeset_file};
 use boxglue_program::run_memory;
 use boxglue_words::{FileHost, HostParts, NamedPath, PaintOptions, StandardInput, read_fonts};
@@ -99,7 +99,7 @@ pub fn typeset<H: FileHost, I: StandardInput + Drop, W: Write, E: Write>(
         Ok(inputs) => inputs,
         Err(fault) => {
             let end = Err(TaskFault::from(fault));
-            return (finish(alloc, end, output, errors), files);
+            return (report_end(alloc, end, output, errors), files);
         }
     };
     let TypesetEnd {
@@ -109,7 +109,7 @@ pub fn typeset<H: FileHost, I: StandardInput + Drop, W: Write, E: Write>(
         ..
     } = typeset_file(alloc, files, out, &inputs, output);
     tell_unwritten(alloc, written, out, errors);
-    (finish(alloc, end, output, errors), host)
+    (report_end(alloc, end, output, errors), host)
 }
 
 /// Runs the lines of standard input as they come, and writes the pages to the file `out`. Returns the status and the files.
@@ -130,7 +130,7 @@ pub fn session<H: FileHost, I: StandardInput + Drop, W: Write, E: Write>(
         Ok(font_files) => font_files,
         Err(unread) => {
             let end = Err(TaskFault::from(unread));
-            return (finish(alloc, end, output, errors), files);
+            return (report_end(alloc, end, output, errors), files);
         }
     };
     let TypesetEnd {
@@ -140,5 +140,5 @@ pub fn session<H: FileHost, I: StandardInput + Drop, W: Write, E: Write>(
         ..
     } = session_file(alloc, files, out, &font_files, &mut input, output);
     tell_unwritten(alloc, written, out, errors);
-    (finish(alloc, end, output, errors), host)
+    (report_end(alloc, end, output, errors), host)
 }

@@ -78,7 +78,7 @@ pub fn print_version<W: Write>(output: &mut W) -> u8
 }
 
 /// Reports how a task ended, and returns the status: 0 if its text was printed and all was accepted, 2 if there is no such page, otherwise 1.
-pub fn finish<W: Write, E: Write>(
+pub fn report_end<W: Write, E: Write>(
     alloc: Global,
     end: Result<bool, TaskFault<'_>>,
     output: &mut W,

@@ -10,12 +10,12 @@ returns g c =
     held c.args.fonts.now c.args.out.now _ _ (record { created = run.created; done = run.written; written = g.H.FileHost.written run.host }) c.deref.result.now
     run.end _ _ _ _ _ (rw c.deref.ensures.value c.in-Ok.ensures.ok) does.session_ended
     (record { written = refl; placed = does.placed; untouched = does.untouched; unchanged = does.unchanged; blamed = does.blamed }) c.tell_unwritten.ensures
-    c.finish-2.ensures.output c.finish-2.ensures.errors c.finish-2.ensures.status
+    c.report_end-2.ensures.output c.report_end-2.ensures.errors c.report_end-2.ensures.status
 
 pub returns-in-Err : goal.returns-in-Err
 returns-in-Err g c =
-    let output = rw c.from.ensures at c.finish.ensures.output in
-    let errors = rw c.from.ensures at c.finish.ensures.errors in
-    let status = rw c.from.ensures at c.finish.ensures.status in
+    let output = rw c.from.ensures at c.report_end.ensures.output in
+    let errors = rw c.from.ensures at c.report_end.ensures.errors in
+    let status = rw c.from.ensures at c.report_end.ensures.status in
     not_held g.H.FileHost.file g.H.FileHost.created g.H.FileHost.written g.H.FileHost.failures _ _ _ c.args.fonts.now c.args.out.now c.in-Err.unread _ _ _
     c.in-Err.ensures.err output errors status

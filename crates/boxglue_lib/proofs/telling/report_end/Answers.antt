@@ -1,6 +1,6 @@
 -- The message about a file that could not be read.
 use Rattle.boxglue_lib.proofs.EndLemmas.{tells_unreadable}
-use Rattle.boxglue_lib.proofs.telling.finish.Goals as goal
+use Rattle.boxglue_lib.proofs.telling.report_end.Goals as goal
 
 pub returns-in-Err-Unreadable-clause-errors : goal.returns-in-Err-Unreadable-clause-errors
 returns-in-Err-Unreadable-clause-errors g c =
