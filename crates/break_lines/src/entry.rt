@@ -164,17 +164,6 @@ impl Entry {
             },
         }
     }
-
-    /// The better one of two entries: this one, unless the other one is strictly better.
-    #[inline]
-    pub fn or_better(self, other: Entry) -> Entry
-        ensures { IsKept (Some self) other result }
-    {
-        if self.is_not_after(other) {
-            return self;
-        }
-        other
-    }
 }
 
 /// Whether an offer replaces the content of a slot: the slot is empty, or its content is worse than the offer.
