@@ -49,8 +49,7 @@ pub replies_handed : (script handed : List ℕ) (before after : RowBuffer) (old 
 replies_handed script handed before after old new status has (inl ran) = still_handed old new handed has ran.run.goes_on ran.run.taken
 replies_handed script handed before after old new status has (inr (inl bad)) = subst (λ (k : KeptState). HasHanded k handed) (sym bad.same) has
 replies_handed script handed before after old new status has (inr (inr (inl lacks))) = subst (λ (k : KeptState). HasHanded k handed) (sym lacks.same) has
-replies_handed script handed before after old new status has (inr (inr (inr (same, space, lacks)))) =
-    subst (λ (k : KeptState). HasHanded k handed) (sym same) has
+replies_handed script handed before after old new status has (inr (inr (inr lacks))) = subst (λ (k : KeptState). HasHanded k handed) (sym lacks.same) has
 
 pub end_handed : (handed : List ℕ) (row : ReplyRow) (old new : KeptState) (status : ℕ) → HasHanded old handed → RepliesToEnd row old new status → HasHanded new handed
 end_handed handed row old new status has ends = still_handed old new handed has ends.ended.goes_on ends.ended.taken

@@ -41,7 +41,7 @@ run_is_not_8 script before after old new status (inl ran) e =
     omega (arith, small, is, e)
 run_is_not_8 script before after old new status (inr (inl bad)) e = let h = bad.status_is in omega (arith, h, e)
 run_is_not_8 script before after old new status (inr (inr (inl lacks))) e = let h = lacks.status_is in omega (arith, h, e)
-run_is_not_8 script before after old new status (inr (inr (inr (same, space, h)))) e = omega (arith, h, e)
+run_is_not_8 script before after old new status (inr (inr (inr lacks))) e = let h = lacks.status_is in omega (arith, h, e)
 
 pub end_is_not_8 : (row : ReplyRow) (old new : KeptState) (status : ℕ) → RepliesToEnd row old new status → status ≡ 8 → ⊥
 end_is_not_8 row old new status does e =

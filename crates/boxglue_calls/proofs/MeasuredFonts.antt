@@ -8,6 +8,7 @@ use Rattle.std.proofs.lemmas.Bool.Decides.{Decides-int_eq}
 use Rattle.tfm_core.specs.FontReads.{IsReadRefusal}
 use Rattle.tfm_core.specs.Fonts.{SizedFont, chosen_size, font_at}
 use Rattle.tfm_core.specs.MetricFile.{record_in}
+use Rattle.tfm_core.specs.Rules.{broken_in_front}
 use Rattle.tfm_core.specs.Scaling.{IsFontSize}
 use Rattle.tfm_core.specs.declared.reading.FontReadFault.{FontReadFault}
 use Rattle.tfm_core.specs.declared.reading.FontReadFault.TheVariants as faults
@@ -63,12 +64,16 @@ pub refuses_font : (tfm : List ℕ) (size : Option ℤ) (reason : FontReadFault)
 refuses_font tfm size reason old new status other broken same status_is =
     inr (inr (inl (record { reason = reason; other = other; broken = broken; same = same; status_is = status_is })))
 
+pub lacks_memory : (tfm : List ℕ) (size : Option ℤ) (old new : MetricOutputs) (status : ℕ) → broken_in_front tfm ≡ None → new ≡ old → status ≡ 2
+    → MeasuresFont tfm size old new status
+lacks_memory tfm size old new status front same status_is = inr (inr (inr (record { front = front; same = same; status_is = status_is })))
+
 -- A call that measures a font never says 6.
 pub not_six : (tfm : List ℕ) (size : Option ℤ) (old new : MetricOutputs) (status : ℕ) → MeasuresFont tfm size old new status → status ≡ 6 → ⊥
 not_six tfm size old new status (inl writes) six = let is = writes.status_is in absurd (omega arith)
 not_six tfm size old new status (inr (inl lacks)) six = let is = lacks.status_is in absurd (omega arith)
 not_six tfm size old new status (inr (inr (inl refuses))) six = let is = refuses.status_is in absurd (omega arith)
-not_six tfm size old new status (inr (inr (inr (same, is)))) six = absurd (omega arith)
+not_six tfm size old new status (inr (inr (inr lacks))) six = let is = lacks.status_is in absurd (omega arith)
 
 -- The size that is asked for.
 asked_by : (b : Bool) (size : ℤ) → b ≡ false → cond b None (Some size) ≡ Some size

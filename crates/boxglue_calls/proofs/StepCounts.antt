@@ -49,4 +49,4 @@ buffer_suffices tfm size old new status (inr (inl writes)) long = λ small. omeg
 buffer_suffices tfm size old new status (inr (inr (inl lacks))) long =
     λ small. omega (arith, lacks.small, steps_fit tfm _ lacks.glyphs lacks.parameters lacks.steps lacks.metrics)
 buffer_suffices tfm size old new status (inr (inr (inr (inl refuses)))) long = λ small. omega (arith, refuses.status_is)
-buffer_suffices tfm size old new status (inr (inr (inr (inr (same, is))))) long = λ small. omega arith
+buffer_suffices tfm size old new status (inr (inr (inr (inr lacks)))) long = λ small. omega (arith, lacks.status_is)

@@ -1,8 +1,9 @@
 -- What the calls promise: `boxglue_c` states of each export what `boxglue_calls` proves of the call (own).
-use Rattle.std.specs.Prelude.{◌≡◌, ◌≢◌, ◌≤◌, ◌↔◌, ◌⊎◌, ◌/◌, ℕ, ℤ, pos, true, false, if◌then◌else◌, List, length, Option, Some, None}
+use Rattle.std.specs.Prelude.{◌≡◌, ◌≢◌, ◌≤◌, ◌↔◌, ◌⊎◌, ◌/◌, ℕ, ℤ, pos, true, false, if◌then◌else◌, List, [], length, Option, Some, None}
 use Rattle.std.specs.Ordering.{int_eq}
 use Rattle.boxglue_program.specs.Reports.{Reports}
 use Rattle.boxglue_print.specs.Outputs.{IsListed, IsPainted, LacksPage}
+use Rattle.dvi_read.specs.Opening.{IsDviFault}
 use Rattle.dvi_read.specs.declared.fault.DviFault.TheVariants.{OutOfMemory}
 use Rattle.raster_core.specs.PaintOptions.{options_of, PaintOptionsView}
 use Rattle.tfm_core.specs.Scaling.{IsFontSize}
@@ -91,11 +92,16 @@ KeepsUnread status old new = status ≡ 2 → new ≡ old
 abbrev pub ReadsMarks : (dvi : List ℕ) → List Font → (old new : MarkOutputs) → MarkSizes → (status : ℕ) → Type 0
 ReadsMarks dvi fonts old new sizes status = (status ≡ 2) ⊎ (status ≡ 3) ⊎ HandsOverMarks (files_of fonts) dvi old new sizes status
 
+-- Memory is refused for a check: for a copy of the fonts, which takes none where no font is given, or for the file, as `IsDviFault` allows.
+abbrev pub MayLackMemory : (dvi : List ℕ) → List Font → Type 0
+MayLackMemory dvi fonts = fonts ≢ [] ⊎ IsDviFault (files_of fonts) dvi OutOfMemory
+
 -- A DVI file with these fonts is checked. `name` is the buffer for the name of a missing font, before and after. If memory is refused, the fault says
 -- so.
 abbrev pub Checks : (dvi : List ℕ) → List Font → (name : List ℕ × List ℕ) → Fault → (status : ℕ) → Type 0
 Checks dvi fonts name fault status =
-    ((status ≡ 2) × (fault ≡ fault_numbers OutOfMemory)) ⊎ (status ≡ 3) ⊎ ChecksFile (files_of fonts) dvi name fault status
+    ((status ≡ 2) × (fault ≡ fault_numbers OutOfMemory) × MayLackMemory dvi fonts) ⊎ (status ≡ 3)
+    ⊎ ChecksFile (files_of fonts) dvi name fault status
 
 -- A call that does nothing, since a font has no name, leaves this as it was.
 abbrev pub KeepsUnnamed : {A : Type 0} → (status : ℕ) → (old new : A) → Type 0

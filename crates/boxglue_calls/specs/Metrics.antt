@@ -8,7 +8,7 @@ use Rattle.scaled_core.specs.Dimensions.{dimension_of}
 use Rattle.tfm_core.specs.FontReads.{IsReadRefusal}
 use Rattle.tfm_core.specs.Fonts.{SizedFont, chosen_size, fits_at, font_at, parameter, sizes_in, step_of}
 use Rattle.tfm_core.specs.MetricFile.{MetricFile}
-use Rattle.tfm_core.specs.Rules.{character_at, metric_file}
+use Rattle.tfm_core.specs.Rules.{broken_in_front, character_at, metric_file}
 use Rattle.tfm_core.specs.Scaling.{design_size_of, scaled, scaled_word}
 use Rattle.tfm_core.specs.declared.font.Step.{Step}
 use Rattle.tfm_core.specs.declared.font.Step.TheVariants.{Kern, Ligature}
@@ -157,9 +157,14 @@ pub record RefusesFont (tfm : List ℕ) (size : Option ℤ) (old new : MetricOut
   pub same : new ≡ record old { fault = read_fault reason }
   pub status_is : status ≡ 1
 
--- The metrics of a file at a size are written; or the buffer for steps is too small; or the file is refused; or memory was refused, and all is as it
--- was.
+-- Memory was refused, and all is as it was. The front of the file breaks no rule, since it is read before any memory is taken.
+pub record LacksMemoryForFont (tfm : List ℕ) (old new : MetricOutputs) (status : ℕ) : Type 0 where
+  pub front : broken_in_front tfm ≡ None
+  pub same : new ≡ old
+  pub status_is : status ≡ 2
+
+-- The metrics of a file at a size are written; or the buffer for steps is too small; or the file is refused; or memory was refused.
 abbrev pub MeasuresFont : (tfm : List ℕ) → (size : Option ℤ) → (old new : MetricOutputs) → (status : ℕ) → Type 0
 MeasuresFont tfm size old new status =
     WritesMetrics tfm size old new status ⊎ LacksSpaceForSteps tfm size old new status ⊎ RefusesFont tfm size old new status
-    ⊎ ((new ≡ old) × (status ≡ 2))
+    ⊎ LacksMemoryForFont tfm old new status

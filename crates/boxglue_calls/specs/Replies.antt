@@ -2,7 +2,7 @@
 use Rattle.std.specs.Prelude.{◌≡◌, ◌<◌, ◌⊎◌, ℕ, List, [], ◌∷◌, length}
 use Rattle.boxglue_script.specs.declared.cause.Cause.{Cause}
 use Rattle.boxglue_script.specs.declared.script.Line.{Line}
-use Rattle.boxglue_script.specs.Script.{IsScript, IsFirstBad}
+use Rattle.boxglue_script.specs.Script.{IsScript, IsFirstBad, IsRightSoFar}
 use Rattle.boxglue_program.specs.Runs.{line_numbers}
 use Rattle.boxglue_calls.specs.Buffers.{Holds}
 use Rattle.boxglue_calls.specs.RunStatus.{replies_status, reply_status}
@@ -53,12 +53,18 @@ pub record LacksRows (script : List ℕ) (before after : RowBuffer) (old new : K
   pub same : new ≡ old
   pub status_is : status ≡ 4
 
--- A piece of a script was run; or is bad; or there is no space for its rows; or memory was refused before a line was run: nothing changed, and the
--- status is 2.
+-- Memory was refused while a piece was read, at a line that gives a command, before a line was run: nothing changed, and the status is 2.
+pub record LacksMemoryForPiece (script : List ℕ) (before after : RowBuffer) (old new : KeptState) (status : ℕ) : Type 0 where
+  pub right : IsRightSoFar script
+  pub same : new ≡ old
+  pub rows : after ≡ before
+  pub status_is : status ≡ 2
+
+-- A piece of a script was run; or is bad; or there is no space for its rows; or memory was refused for its commands.
 abbrev pub RepliesTo : (script : List ℕ) → (before after : RowBuffer) → (old new : KeptState) → (status : ℕ) → Type 0
 RepliesTo script before after old new status =
     RepliesToPiece script before after old new status ⊎ RefusesPieceInRow script before after old new status
-    ⊎ LacksRows script before after old new status ⊎ ((new ≡ old) × (after ≡ before) × (status ≡ 2))
+    ⊎ LacksRows script before after old new status ⊎ LacksMemoryForPiece script before after old new status
 
 -- The job was finished, or its end was refused, and the row is that of this reply.
 pub record RepliesToEnd (row : ReplyRow) (old new : KeptState) (status : ℕ) : Type 0 where

@@ -1,7 +1,7 @@
 //! The check of a DVI file, whose fault is given in numbers.
 
 ghost use Rattle.std.specs.Prelude.{◌≡◌, ◌≢◌, true, IfOk, OnErr, OnOk};
-ghost use Rattle.boxglue_calls.specs.Calls.{Checks, KeepsUndone, KeepsUnnamed, RefusesNames};
+ghost use Rattle.boxglue_calls.specs.Calls.{Checks, KeepsUndone, KeepsUnnamed, MayLackMemory, RefusesNames};
 ghost use Rattle.boxglue_calls.specs.Buffers.{HandsOver};
 ghost use Rattle.boxglue_calls.specs.FileFaults.{ChecksFile, fault_numbers, missing_name};
 ghost use Rattle.boxglue_calls.specs.Fonts.{are_named, files_of};
@@ -23,6 +23,7 @@ fn hand_over_fault(
     ensures other { OnOk result (fault.entry ≢ OutOfMemory) }
     ensures numbers { OnOk result (numbers.new ≡ fault_numbers fault.entry) }
     ensures handed { IfOk result (HandsOver name.old name.new (missing_name fault.entry) 1) }
+    ensures memory { OnErr result (fault.entry ≡ OutOfMemory) }
     ensures name { OnErr result (name.new ≡ name.old) }
 {
     if let DviFault::OutOfMemory = fault {
@@ -42,6 +43,7 @@ fn check_named(
 ) -> Result<u32, AllocError>
     requires { are_named fonts.now ≡ true }
     ensures checked { IfOk result (ChecksFile (files_of fonts.now) dvi.now (name.old, name.new) fault.new) }
+    ensures memory { OnErr result (MayLackMemory dvi.now fonts.now) }
     ensures name { OnErr result (name.new ≡ name.old) }
 {
     let files = font_files(alloc, fonts)?;

@@ -1,6 +1,6 @@
 //! Font files that a caller hands in.
 
-ghost use Rattle.std.specs.Prelude.{◌≡◌, ◌++◌, ◌∷◌, [], true, OnOk, IfOk};
+ghost use Rattle.std.specs.Prelude.{◌≡◌, ◌≢◌, ◌++◌, ◌∷◌, [], true, OnErr, OnOk, IfOk};
 ghost use Rattle.boxglue_calls.specs.Fonts.{are_named, file_of, files_of, is_name};
 
 use std::alloc::{AllocError, Global};
@@ -51,10 +51,11 @@ fn push_font(alloc: Global, font: &Font<'_>, files: &mut Vec<FontFile>) -> Resul
     Ok(())
 }
 
-/// The files of fonts that have names, in their order.
+/// The files of fonts that have names, in their order. It takes no memory where there are none.
 pub fn font_files(alloc: Global, fonts: &[Font<'_>]) -> Result<Vec<FontFile>, AllocError>
     requires { are_named fonts.now ≡ true }
-    ensures { IfOk result (λ files. files.items ≡ files_of fonts.now) }
+    ensures copied { IfOk result (λ files. files.items ≡ files_of fonts.now) }
+    ensures memory { OnErr result (fonts.now ≢ []) }
 {
     let mut files = Vec::new(alloc);
     for font in fonts {

@@ -25,7 +25,7 @@ hand_over_rows-requires c =
 pub returns-in-Ok-clause-handed : goal.returns-in-Ok-clause-handed
 returns-in-Ok-clause-handed c =
     let files = c.deref.result.now in
-    let same : files ≡ files_of c.args.fonts.now = c.deref.ensures.value ∙ c.in_ok-files.ensures in
+    let same : files ≡ files_of c.args.fonts.now = c.deref.ensures.value ∙ c.in_ok-files.ensures.copied in
     let opened = c.in-Ok.ensures in
     let seen_items = c.in_ok-seen_items-in-Ok in
     let checked =
@@ -40,7 +40,7 @@ returns-in-Ok-clause-handed c =
 pub returns-clause-handed : goal.returns-clause-handed
 returns-clause-handed c =
     let files = c.deref.result.now in
-    let same : files ≡ files_of c.args.fonts.now = c.deref.ensures.value ∙ c.in_ok-files.ensures in
+    let same : files ≡ files_of c.args.fonts.now = c.deref.ensures.value ∙ c.in_ok-files.ensures.copied in
     let refusal = c.in_ok-output-in-Err.ensures in
     let output = c.in_ok-output-in-Err.output in
     let refused : IsRefusal files c.args.dvi.now output =

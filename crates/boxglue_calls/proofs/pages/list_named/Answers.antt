@@ -14,7 +14,7 @@ use Rattle.boxglue_calls.proofs.pages.list_named.Goals as goal
 pub returns-in-Ok-clause-handed : goal.returns-in-Ok-clause-handed
 returns-in-Ok-clause-handed c =
     let pages = c.in-Ok.opened.pages in
-    let same : c.deref.result.now ≡ files_of c.args.fonts.now = c.deref.ensures.value ∙ c.in_ok-files.ensures in
+    let same : c.deref.result.now ≡ files_of c.args.fonts.now = c.deref.ensures.value ∙ c.in_ok-files.ensures.copied in
     let new = c.list_opened.new.text in
     let size = c.list_opened.new.size in
     subst (λ (files : List NamedBytes). IfOk c.list_opened.result (HandsOverPages (IsListed files c.args.dvi.now) c.args.text.now new size)) same
@@ -33,7 +33,7 @@ pub returns-clause-handed : goal.returns-clause-handed
 returns-clause-handed c =
     let refusal = c.in_ok-output-in-Err in
     let output = refusal.output in
-    let same : c.deref.result.now ≡ files_of c.args.fonts.now = c.deref.ensures.value ∙ c.in_ok-files.ensures in
+    let same : c.deref.result.now ≡ files_of c.args.fonts.now = c.deref.ensures.value ∙ c.in_ok-files.ensures.copied in
     subst (λ (files : List NamedBytes). HandsOverPages (IsListed files c.args.dvi.now) c.args.text.now c.hand_over_output.new.text c.hand_over_output.new.size c.hand_over_output.result) same
     (record {
       text = output.text.items;

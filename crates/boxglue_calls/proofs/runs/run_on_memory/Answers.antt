@@ -9,5 +9,5 @@ pub returns-in-Ok : goal.returns-in-Ok
 returns-in-Ok c =
     if_ok c.run_job.result
     (λ run facts. ran_script c.args.script.now (files_of c.args.fonts.now) c.deref.result.now (lines_of c.in-Ok.lines) (lines_of c.in-Ok.lines) facts.0 facts.1 run.device.failures run.answers.items
-    run.device.bytes run.status c.in-Ok.ensures.lines refl (c.deref.ensures.value ∙ c.in_ok-files.ensures) facts.2 facts.3 facts.4)
+    run.device.bytes run.status c.in-Ok.ensures.lines refl (c.deref.ensures.value ∙ c.in_ok-files.ensures.copied) facts.2 facts.3 facts.4)
     c.run_job.ensures
