@@ -127,6 +127,16 @@ fn split_row(front: &Sizes, badness: u32, rest: &Option<Sizes>) -> ReplyRow
     }
 }
 
+/// A row of this kind with this count in which every other number is 0.
+fn counted_row(kind: u32, count: u64) -> ReplyRow
+    ensures { result ≡ record (row_of_kind kind) { count = count } }
+{
+    ReplyRow {
+        count,
+        ..row_of_kind(kind)
+    }
+}
+
 /// The row of a text that was added.
 fn shaped_row(items: usize, missing: usize) -> ReplyRow
     ensures { result ≡ answer_row (Answer.Shaped items missing) }
@@ -156,10 +166,7 @@ fn answer_row(answer: &Answer) -> ReplyRow
         },
         Answer::MeasuredVoid => row_of_kind(reply_kind::MEASURED_VOID),
         Answer::Shaped { items, missing } => shaped_row(*items, *missing),
-        Answer::Added(items) => ReplyRow {
-            count: *items as u64,
-            ..row_of_kind(reply_kind::ADDED)
-        },
+        Answer::Added(items) => counted_row(reply_kind::ADDED, *items as u64),
         Answer::Paragraph {
             lines,
             pass,
@@ -178,10 +185,7 @@ fn answer_row(answer: &Answer) -> ReplyRow
             rest,
         } => split_row(front, *badness, rest),
         Answer::SplitVoid => row_of_kind(reply_kind::SPLIT_VOID),
-        Answer::Shipped(pages) => ReplyRow {
-            count: u64::from(*pages),
-            ..row_of_kind(reply_kind::SHIPPED)
-        },
+        Answer::Shipped(pages) => counted_row(reply_kind::SHIPPED, u64::from(*pages)),
     }
 }
 
