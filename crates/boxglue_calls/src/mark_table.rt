@@ -78,6 +78,7 @@ fn place_of(fault: DviFault<'_>) -> usize
 fn short_refusal(alloc: Global, fault: DviFault<'_>) -> Result<Output, AllocError>
     ensures { IfOk result (IsShortRefusal fault.entry) }
 {
+    // A fact for the proofs: the place of a broken rule is a number of 64 bits.
     let _ = place_of(fault);
     let output = refusal(alloc, fault)?;
     Ok(output)
