@@ -47,10 +47,10 @@ def refuse_missing(text: str, codes: Sequence[int], metrics: Metrics) -> None:
 
 def shaped(word: Sequence[int], metrics: Metrics | None) -> Iterator[tuple[list[int], int, int]]:
     """The glyphs of a word (docs/FORMATS.md, section 10): of each the characters that it stands
-    for, its code, and the kern after it."""
+    for, its code, and the kern after it. There is no step to a character that the font lacks."""
     sources, code = [word[0]], word[0]
     for following in word[1:]:
-        step = metrics.step(code, following) if metrics else None
+        step = metrics.step(code, following) if metrics and metrics.has(following) else None
         if step and step.is_ligature:
             sources, code = [*sources, following], step.value
         else:

@@ -808,6 +808,11 @@ class Encodings(unittest.TestCase):
         for text, wanted in cases.items():
             self.assertEqual(self.lines(text, metrics=metrics), wanted, text)
 
+    def test_kern_before_a_missing_character(self):
+        """There is none, though the font has one: `text` sets none there either."""
+        metrics = Steps({(86, 233): Step(False, -7)}, {233})
+        self.assertEqual(self.lines("Vé", metrics=metrics), "text V\nchar 233\n")
+
     def test_missing(self):
         with self.assertRaises(BadCharacter) as caught:
             self.lines("abé", metrics=Steps({}, {233}), missing="raise")
