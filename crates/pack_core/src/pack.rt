@@ -149,6 +149,7 @@ pub fn hbox_shell(target: Target, nodes: &[Node]) -> Option<Shell>
 /// The box that `hpack` would make of a list with these measures, without the list, if the numbers of the list fit. Who knows the measures of a line
 /// need not walk over its items. Does not allocate.
 #[tactic(auto, using(crate::proofs::Steps::steps))]
+#[inline(always)]
 pub fn measured_shell(target: Target, empty: bool, across: &Across) -> Option<Shell>
     ensures { (nodes : List Node) → IsAcross nodes across.now → empty ≡ (length nodes == 0) →
         result ≡ some_if (list_all fits (hbox_numbers target nodes)) (hbox_shell target nodes) }
