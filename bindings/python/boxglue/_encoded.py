@@ -47,7 +47,7 @@ def refuse_missing(text: str, codes: Sequence[int], metrics: Metrics) -> None:
 
 def shaped(word: Sequence[int], metrics: Metrics | None) -> Iterator[tuple[list[int], int, int]]:
     """The glyphs of a word (docs/FORMATS.md, section 10): of each the characters that it stands
-    for, its code, and the kern after it. There is no step to a character that the font lacks."""
+    for, its code, and the kern after it. Steps to characters that the font lacks do not count."""
     sources, code = [word[0]], word[0]
     for following in word[1:]:
         step = metrics.step(code, following) if metrics and metrics.has(following) else None
