@@ -29,11 +29,11 @@ Uses:
   boxglue < page.box
       runs a script; prints its answers, and then the bytes of its DVI file
   boxglue typeset page.dvi cmr10=cmr10.tfm < page.box
-      runs a script that has the font cmr10; writes page.dvi and prints the answers
+      runs a script that uses the font cmr10; writes page.dvi and prints the answers
   boxglue session page.dvi cmr10=cmr10.tfm
       runs each line of standard input as it comes, and answers it at once; writes page.dvi
   boxglue list page.dvi cmr10=cmr10.tfm
-      prints the pages of a DVI file and their marks
+      prints the glyphs, rules and specials of each page of a DVI file
   boxglue fonts page.dvi
       prints the units of a DVI file, and the fonts that it defines
   boxglue paint --page 1 --dpi 100 --width 850 --height 1100 page.dvi cmr10=cmr10.tfm > page.pbm
@@ -59,7 +59,7 @@ fn fonts<'a>(alloc: Global) -> Arg<'a>
     ensures local { result.global ≡ false }
 {
     Arg::new(alloc, "NAME=TFM")
-        .help("a font that the text names, and its metric file")
+        .help("the name of a font, and the path of its metric file")
         .action(ArgAction::Append)
         .num_args(0..)
 }
@@ -100,9 +100,9 @@ fn typeset<'a>(alloc: Global) -> Result<Command<'a>, AllocError>
     subcommand(
         alloc,
         "typeset",
-        "runs the script of standard input and writes the DVI file",
+        "runs the script on standard input and writes the DVI file OUT",
     )
-    .arg(path(alloc, "OUT", "the DVI file that is written"))?
+    .arg(path(alloc, "OUT", "the DVI file to write"))?
     .arg(fonts(alloc))
 }
 
@@ -114,9 +114,9 @@ fn session<'a>(alloc: Global) -> Result<Command<'a>, AllocError>
     subcommand(
         alloc,
         "session",
-        "runs the lines of standard input as they come and writes the DVI file",
+        "runs each line of standard input as it comes and writes the DVI file OUT",
     )
-    .arg(path(alloc, "OUT", "the DVI file that is written"))?
+    .arg(path(alloc, "OUT", "the DVI file to write"))?
     .arg(fonts(alloc))
 }
 
@@ -128,9 +128,9 @@ fn lists<'a>(alloc: Global) -> Result<Command<'a>, AllocError>
     subcommand(
         alloc,
         "list",
-        "prints the pages of a DVI file and their marks",
+        "prints the glyphs, rules and specials of each page of a DVI file",
     )
-    .arg(path(alloc, "DVI", "the DVI file that is read"))?
+    .arg(path(alloc, "DVI", "the DVI file to read"))?
     .arg(fonts(alloc))
 }
 
@@ -144,7 +144,7 @@ fn names_fonts<'a>(alloc: Global) -> Result<Command<'a>, AllocError>
         "fonts",
         "prints the units of a DVI file and the fonts that it defines",
     )
-    .arg(path(alloc, "DVI", "the DVI file that is read"))
+    .arg(path(alloc, "DVI", "the DVI file to read"))
 }
 
 /// The subcommand `paint`.
@@ -155,13 +155,18 @@ fn paint<'a>(alloc: Global) -> Result<Command<'a>, AllocError>
     subcommand(
         alloc,
         "paint",
-        "prints a page of a DVI file as a bitmap in plain PBM",
+        "prints the rules of a page as a bitmap in plain PBM",
     )
-    .arg(number(alloc, "page", u32::MAX, "the page, from 1 on"))?
-    .arg(number(alloc, "dpi", 10_000, "pixels an inch"))?
-    .arg(number(alloc, "width", 10_000, "pixels across"))?
-    .arg(number(alloc, "height", 10_000, "pixels down"))?
-    .arg(path(alloc, "DVI", "the DVI file that is read"))?
+    .arg(number(alloc, "page", u32::MAX, "the page, counted from 1"))?
+    .arg(number(alloc, "dpi", 10_000, "the resolution, in pixels per inch"))?
+    .arg(number(alloc, "width", 10_000, "the width of the bitmap, in pixels"))?
+    .arg(number(
+        alloc,
+        "height",
+        10_000,
+        "the height of the bitmap, in pixels",
+    ))?
+    .arg(path(alloc, "DVI", "the DVI file to read"))?
     .arg(fonts(alloc))
 }
 
