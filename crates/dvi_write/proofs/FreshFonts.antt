@@ -85,12 +85,12 @@ marked_at marked font n slot is within = by_test (int_eq font (pos slot)) refl
         let apart : slot ≢ n = λ e. differ (sym ((Decides-int_eq font (pos slot)).1 (is ∙ ap pos (sym e))) ∙ other) in
         get_or-set_other marked n slot true false apart ∙ sym (or-false (get_or marked slot false))
 
--- A slot above the one that is marked keeps its mark.
-pub unmarked : (before : Bool) (slot other : ℕ) → before ≡ false → slot < other → (before || int_eq (pos slot) (pos other)) ≡ false
-unmarked before slot other none below = by_test (int_eq (pos slot) (pos other)) refl
+-- Another slot than the one that is marked keeps its mark.
+pub unmarked : (before : Bool) (slot other : ℕ) → before ≡ false → slot ≢ other → (before || int_eq (pos slot) (pos other)) ≡ false
+unmarked before slot other none differs = by_test (int_eq (pos slot) (pos other)) refl
   where
     by_test : (same : Bool) → int_eq (pos slot) (pos other) ≡ same → (before || same) ≡ false
-    by_test true same = absurd (omega (arith, ints, (Decides-int_eq (pos slot) (pos other)).0 same, below))
+    by_test true same = absurd (differs (omega (arith, ints, (Decides-int_eq (pos slot) (pos other)).0 same)))
     by_test false apart = or-false before ∙ none
 
 -- Where no slot from a number on is marked, the slots below it are enough.
@@ -99,16 +99,16 @@ unfolding is_marked_fresh
 not_fresh fonts defined marked slot none = ap (λ (b : Bool). b && (is_some (font_in fonts slot) && not (is_among slot defined))) none
 
 marked_up :
-    (fonts : Slots) (defined : List ℕ) (marked : List Bool) (limit more : ℕ) → limit + more ≤ 256
-    → ((slot : ℕ) → slot < 256 → limit ≤ slot → get_or marked slot false ≡ false)
+    (fonts : Slots) (defined : List ℕ) (marked : List Bool) (limit more : ℕ)
+    → ((slot : ℕ) → slot < limit + more → limit ≤ slot → get_or marked slot false ≡ false)
     → filter (is_marked_fresh fonts defined marked) (numbers_below limit) ≡ filter (is_marked_fresh fonts defined marked) (numbers_below (limit + more))
-marked_up fonts defined marked limit zero within none =
+marked_up fonts defined marked limit zero none =
     let same : limit ≡ limit + zero = omega arith in ap (λ (n : ℕ). filter (is_marked_fresh fonts defined marked) (numbers_below n)) same
-marked_up fonts defined marked limit (suc more) within none =
+marked_up fonts defined marked limit (suc more) none =
     let next : limit + more + 1 ≡ limit + suc more = omega arith in
-    marked_up fonts defined marked limit more (omega (arith, within)) none
+    marked_up fonts defined marked limit more (λ slot below. none slot (omega (arith, below)))
     ∙ (sym (filtered_same (is_marked_fresh fonts defined marked) (limit + more)
-    (not_fresh fonts defined marked (limit + more) (none (limit + more) (omega (arith, within)) (omega arith))))
+    (not_fresh fonts defined marked (limit + more) (none (limit + more) (omega arith) (omega arith))))
     ∙ ap (λ (n : ℕ). filter (is_marked_fresh fonts defined marked) (numbers_below n)) next)
 
 pub marked_below :
@@ -117,8 +117,17 @@ pub marked_below :
     → filter (is_marked_fresh fonts defined marked) (numbers_below limit) ≡ filter (is_marked_fresh fonts defined marked) (numbers_below 256)
 marked_below fonts defined marked limit within none =
     let whole : limit + (256 - limit) ≡ 256 = omega (arith, within) in
-    marked_up fonts defined marked limit (256 - limit) (omega (arith, within)) none
+    marked_up fonts defined marked limit (256 - limit) (λ slot below. none slot (omega (arith, within, below)))
     ∙ ap (λ (n : ℕ). filter (is_marked_fresh fonts defined marked) (numbers_below n)) whole
+
+-- Where no slot below a number is marked, none of them is fresh.
+pub none_below :
+    (fonts : Slots) (defined : List ℕ) (marked : List Bool) (first : ℕ) → ((slot : ℕ) → slot < first → get_or marked slot false ≡ false)
+    → [] ≡ filter (is_marked_fresh fonts defined marked) (numbers_below first)
+none_below fonts defined marked first none =
+    let all : 0 + first ≡ first = omega arith in
+    marked_up fonts defined marked 0 first (λ slot below from. none slot (omega (arith, below)))
+    ∙ ap (λ (n : ℕ). filter (is_marked_fresh fonts defined marked) (numbers_below n)) all
 
 pub marked_none : (marked : List Bool) (font : ℤ) (slot : ℕ) → slot < 256 → ((n : ℕ) → n < 256 → font ≢ pos n)
     → get_or marked slot false ≡ (get_or marked slot false || int_eq font (pos slot))

@@ -83,11 +83,12 @@ fn mark(marked: &mut [bool; FONT_SLOTS], slot: u8)
     marked[usize::from(slot)] = true;
 }
 
-/// The result of one pass over the instructions of a body: the slots of the fonts that they select, all of which are below `limit`, and the greatest
-/// number of pushes that are open at once.
+/// The result of one pass over the instructions of a body: the slots of the fonts that they select, all of which are from `first` on and below
+/// `limit`, and the greatest number of pushes that are open at once.
 #[derive(Drop)]
 struct FontsAndDepth {
     selected: [bool; FONT_SLOTS],
+    first: usize,
     limit: usize,
     deepest: usize,
 }
@@ -95,11 +96,14 @@ struct FontsAndDepth {
 /// Passes over instructions of a body once.
 fn pass_over(ops: &[BodyOp<'_>]) -> FontsAndDepth
     ensures selected { (slot : ℕ) → slot < FONT_SLOTS → get_or result.selected slot false ≡ list_any (selects slot) (map body_view ops.now) }
+    ensures first { (slot : ℕ) → slot < FONT_SLOTS → slot < result.first → get_or result.selected slot false ≡ false }
+    ensures first_bounded { result.first ≤ result.limit }
     ensures limit { (slot : ℕ) → slot < FONT_SLOTS → result.limit ≤ slot → get_or result.selected slot false ≡ false }
     ensures limit_bounded { result.limit ≤ FONT_SLOTS }
     ensures deepest { result.deepest ≡ max_pushed 0 (map body_view ops.now) }
 {
     let mut selected = [false; FONT_SLOTS];
+    let mut first: usize = FONT_SLOTS;
     let mut limit: usize = 0;
     let mut pushed: usize = 0;
     let mut deepest: usize = 0;
@@ -109,6 +113,7 @@ fn pass_over(ops: &[BodyOp<'_>]) -> FontsAndDepth
         match slot_of(op) {
             Some(slot) => {
                 mark(&mut selected, slot);
+                first = first.min(usize::from(slot));
                 limit = limit.max(usize::from(slot) + 1);
             }
             None => {}
@@ -116,6 +121,7 @@ fn pass_over(ops: &[BodyOp<'_>]) -> FontsAndDepth
     }
     FontsAndDepth {
         selected,
+        first: first.min(limit),
         limit,
         deepest,
     }
@@ -142,22 +148,24 @@ fn is_fresh(fonts: &Fonts, defined: &[u8], marked: &[bool; FONT_SLOTS], slot: u8
     !is_among(slot, defined)
 }
 
-/// The slots that are marked as selected, loaded and not defined yet, in rising order. No slot from `limit` on is marked: a small page selects few
-/// fonts, and a test of all slots would be an eighth of its work.
+/// The slots that are marked as selected, loaded and not defined yet, in rising order. A small page selects few fonts, and a test of all slots would
+/// be an eighth of its work.
 fn marked_fresh(
     alloc: Global,
     fonts: &Fonts,
     defined: &[u8],
-    selected: &[bool; FONT_SLOTS],
-    limit: usize,
+    passed: &FontsAndDepth,
 ) -> Result<Vec<u8>, AllocError>
-    requires limit { (slot : ℕ) → slot < FONT_SLOTS → limit ≤ slot → get_or selected.now slot false ≡ false }
-    requires limit_bounded { limit ≤ FONT_SLOTS }
-    ensures { IfOk result (λ slots. slots.items ≡ filter (is_marked_fresh fonts.now defined.now selected.now) (numbers_below FONT_SLOTS)) }
+    requires first { (slot : ℕ) → slot < FONT_SLOTS → slot < passed.now.first → get_or passed.now.selected slot false ≡ false }
+    requires first_bounded { passed.now.first ≤ passed.now.limit }
+    requires limit { (slot : ℕ) → slot < FONT_SLOTS → passed.now.limit ≤ slot → get_or passed.now.selected slot false ≡ false }
+    requires limit_bounded { passed.now.limit ≤ FONT_SLOTS }
+    ensures { IfOk result
+        (λ slots. slots.items ≡ filter (is_marked_fresh fonts.now defined.now passed.now.selected) (numbers_below FONT_SLOTS)) }
 {
     let mut slots = Vec::new(alloc);
-    for slot in 0..limit {
-        if is_fresh(fonts, defined, selected, slot as u8) {
+    for slot in passed.first..passed.limit {
+        if is_fresh(fonts, defined, &passed.selected, slot as u8) {
             slots.push(slot as u8)?;
         }
     }
@@ -176,7 +184,7 @@ pub fn fresh_slots(
     ensures deepest { IfOk result (λ found. (forest : Forest) → instructions_of body.now ≡ flat forest → found.1 ≡ nests forest) }
 {
     let passed = pass_over(&body.ops);
-    let slots = marked_fresh(alloc, fonts, defined, &passed.selected, passed.limit)?;
+    let slots = marked_fresh(alloc, fonts, defined, &passed)?;
     Ok((slots, passed.deepest))
 }
 

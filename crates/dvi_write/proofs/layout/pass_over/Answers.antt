@@ -1,4 +1,4 @@
-use Rattle.std.proofs.Common.{◌≡◌, ◌∙◌, ◌+◌, ◌<◌, ◌≤◌, ◌++◌, [], ◌∷◌, ℕ, List, Bool, pos, ap, sym, map, take, get_or, arith}
+use Rattle.std.proofs.Common.{◌≡◌, ◌≢◌, ◌∙◌, ◌+◌, ◌<◌, ◌≤◌, ◌++◌, [], ◌∷◌, ℕ, List, Bool, pos, ap, sym, map, take, get_or, arith}
 use Rattle.std.specs.Prelude.{false, replicate}
 use Rattle.std.specs.List.{list_any}
 use Rattle.std.proofs.lemmas.List.{take_all, take_more, map-append, get_or-replicate}
@@ -13,7 +13,7 @@ use Rattle.dvi_write.proofs.layout.pass_over.Goals as goal
 use Rattle.dvi_write.proofs.layout.pass_over.Goals.{in-Some, in-None}
 
 pub loop-op-init : goal.loop-op-init
-loop-op-init c = ((λ slot within. get_or-replicate _ slot false false within), (λ slot within over. get_or-replicate _ slot false false within), omega arith, record { value = omega arith; seen = omega arith; few = omega arith })
+loop-op-init c = ((λ slot within. get_or-replicate _ slot false false within), (λ slot within over. get_or-replicate _ slot false false within), (λ slot within under. get_or-replicate _ slot false false within), omega arith, record { value = omega arith; seen = omega arith; few = omega arith })
 
 pub loop-op-preserved : goal.loop-op-preserved
 loop-op-preserved c =
@@ -36,15 +36,24 @@ loop-op-preserved c =
       (λ slot within over. elim c.match-slot_of.branch [
         | in-Some w ↦
             let lower : c.loop-op.limit ≤ slot = omega (arith, over, w.limit-is, w.max-limit.ensures) in
-            let below : w.in-Some.slot < slot = omega (arith, over, w.limit-is, w.max-limit.ensures) in
+            let differs : w.in-Some.slot ≢ slot = λ same. omega (arith, over, w.limit-is, w.max-limit.ensures, same) in
             ap (λ (s : List Bool). get_or s slot false) w.selected-is
-            ∙ (w.mark.ensures slot within ∙ unmarked (get_or c.loop-op.selected slot false) w.in-Some.slot slot (c.loop-op.invariant.1 slot within lower) below)
+            ∙ (w.mark.ensures slot within ∙ unmarked (get_or c.loop-op.selected slot false) w.in-Some.slot slot (c.loop-op.invariant.1 slot within lower) differs)
         | in-None w ↦
             ap (λ (s : List Bool). get_or s slot false) w.selected-is ∙ c.loop-op.invariant.1 slot within (omega (arith, over, w.limit-is))
       ]),
-      elim c.match-slot_of.branch [ in-Some w ↦ omega (arith, w.limit-is, w.max-limit.ensures, c.loop-op.invariant.2) | in-None w ↦ omega (arith, w.limit-is, c.loop-op.invariant.2) ],
+      (λ slot within under. elim c.match-slot_of.branch [
+        | in-Some w ↦
+            let lower : slot < c.loop-op.first = omega (arith, under, w.first-is, w.min-first.ensures) in
+            let differs : w.in-Some.slot ≢ slot = λ same. omega (arith, under, w.first-is, w.min-first.ensures, same) in
+            ap (λ (s : List Bool). get_or s slot false) w.selected-is
+            ∙ (w.mark.ensures slot within ∙ unmarked (get_or c.loop-op.selected slot false) w.in-Some.slot slot (c.loop-op.invariant.2 slot within lower) differs)
+        | in-None w ↦
+            ap (λ (s : List Bool). get_or s slot false) w.selected-is ∙ c.loop-op.invariant.2 slot within (omega (arith, under, w.first-is))
+      ]),
+      elim c.match-slot_of.branch [ in-Some w ↦ omega (arith, w.limit-is, w.max-limit.ensures, c.loop-op.invariant.3) | in-None w ↦ omega (arith, w.limit-is, c.loop-op.invariant.3) ],
       seen_more all i c.loop-op.pushed c.loop-op.deepest c.pushed_after-pushed.result c.max-deepest.result _ c.loop-op-test.true
-          c.loop-op.invariant.3 c.pushed_after-pushed.ensures c.max-deepest.ensures,
+          c.loop-op.invariant.4 c.pushed_after-pushed.ensures c.max-deepest.ensures,
     )
 
 pub returns-clause-selected : goal.returns-clause-selected
@@ -53,4 +62,4 @@ returns-clause-selected c slot within =
     ∙ ap (λ (os : List BodyOp). list_any (selects slot) (map body_view os)) (take_all c.loop-op.op-index c.args.ops.now c.loop-op-test.false)
 
 pub returns-clause-deepest : goal.returns-clause-deepest
-returns-clause-deepest c = seen_all c.args.ops.now c.loop-op.op-index c.loop-op.pushed c.loop-op.deepest c.loop-op-test.false c.loop-op.invariant.3
+returns-clause-deepest c = seen_all c.args.ops.now c.loop-op.op-index c.loop-op.pushed c.loop-op.deepest c.loop-op-test.false c.loop-op.invariant.4
