@@ -11,18 +11,18 @@ use Rattle.break_lines.specs.declared.state.BreakState.{BreakState}
 use Rattle.break_lines.specs.declared.state.Fitness.{Fitness}
 use Rattle.break_lines.specs.declared.state.Fitness.TheVariants.{VeryLoose, Loose, Decent, Tight}
 use Rattle.break_lines.specs.declared.state.LineCost.{LineCost}
-use Rattle.break_lines.specs.Costs.{adjacent_demerits, line_after}
+use Rattle.break_lines.specs.Costs.{adjacent_demerits, is_apart, line_after}
 use Rattle.break_lines.specs.Orders.{NotAfter}
 use Rattle.break_lines.specs.Problems.{class_index, end_after}
 use Rattle.break_lines.specs.SmallCosts.{IsSmallAlone}
 use Rattle.break_lines.specs.Tables.{Entry, compared_numbers, IsPut}
-use Rattle.break_lines.specs.Totals.{AreSmallTotals, entry_with_totals}
+use Rattle.break_lines.specs.Totals.{Within, AreSmallTotals, entry_with_totals}
 use Rattle.break_lines.proofs.Dictionary.{state_same, rank_few, not_after_refl, not_after_trans}
 use Rattle.break_lines.proofs.Entries.{get_at, get_left}
 use Rattle.break_core.specs.declared.active_list.Live.{Live}
 use Rattle.break_core.specs.declared.row.Offer.{Offer}
 use Rattle.break_core.specs.declared.row.Row.{Row}
-use Rattle.break_core.specs.Private.Active.{HaveBest}
+use Rattle.break_core.specs.Private.Active.{IsMetBy, IsCoveredBy, HaveBest}
 use Rattle.break_core.specs.Private.Filling.{IsOf, IsBestOffer, IsOfferingBest, offer_from}
 use Rattle.break_core.specs.Private.Offers.{no_entry, totals_of, shown_from, row_at, IsOffer, offer_numbers, offer_before, IsBestFor, AreBestFor, IsBefore, AreBefore, IsBetter, AreBetter, AreNumbered}
 use Rattle.break_core.proofs.Active.{shorter}
@@ -38,6 +38,67 @@ before_four params e index a b c d first second third fourth VeryLoose o at = su
 before_four params e index a b c d first second third fourth Loose o at = subst (IsBefore params e index Loose) (same_Some b o at) second
 before_four params e index a b c d first second third fourth Decent o at = subst (IsBefore params e index Decent) (same_Some c o at) third
 before_four params e index a b c d first second third fourth Tight o at = subst (IsBefore params e index Tight) (same_Some d o at) fourth
+
+-- An entry before lines of two classes, if the demerits for both are the same.
+before_same :
+    (params : Params) (e : Entry) (index : ℕ) (known other : Fitness) (o : Offer)
+    → adjacent_demerits params e.end.class known ≡ adjacent_demerits params e.end.class other
+    → IsBefore params e index known o → IsBefore params e index other o
+before_same params e index known other o same is =
+    record {
+      is = is.is ∙ ap (λ (x : ℤ). offer_with e index (e.demerits +ℤ x)) same;
+      small = record { overhang = is.small.overhang; demerits = is.small.demerits };
+      class_bounded = subst (Within 500000000) same is.class_bounded;
+    }
+  where
+    offer_with : Entry → ℕ → ℤ → Offer
+    offer_with x n demerits = record { overhang = x.overhang; demerits = demerits; index = n }
+
+-- The offers before lines of each class, by those before a very loose line and before a tight one.
+abbrev pub before_offers : (class : Fitness) → (below above : Offer) → List Offer
+before_offers VeryLoose below above = below ∷ below ∷ above ∷ above ∷ []
+before_offers Loose below above = below ∷ below ∷ below ∷ above ∷ []
+before_offers Decent below above = below ∷ above ∷ above ∷ above ∷ []
+before_offers Tight below above = below ∷ below ∷ above ∷ above ∷ []
+
+-- An entry before lines of each class, by its offers before a very loose line and before a tight one.
+pub before_each :
+    (params : Params) (e : Entry) (index : ℕ) (class : Fitness) (below above : Offer)
+    → class ≡ e.end.class → IsBefore params e index VeryLoose below → IsBefore params e index Tight above
+    → AreBefore params e index (before_offers class below above)
+unfolding adjacent_demerits is_apart
+before_each params e index VeryLoose below above at low high =
+    before_four params e index below below above above low
+    (before_same params e index VeryLoose Loose below (by (λ c. adjacent_demerits params c VeryLoose ≡ adjacent_demerits params c Loose) refl) low)
+    (before_same params e index Tight Decent above (by (λ c. adjacent_demerits params c Tight ≡ adjacent_demerits params c Decent) refl) high)
+    high
+  where
+    by : (P : Fitness → Type 0) → P VeryLoose → P e.end.class
+    by P is = subst P at is
+before_each params e index Loose below above at low high =
+    before_four params e index below below below above low
+    (before_same params e index VeryLoose Loose below (by (λ c. adjacent_demerits params c VeryLoose ≡ adjacent_demerits params c Loose) refl) low)
+    (before_same params e index VeryLoose Decent below (by (λ c. adjacent_demerits params c VeryLoose ≡ adjacent_demerits params c Decent) refl) low)
+    high
+  where
+    by : (P : Fitness → Type 0) → P Loose → P e.end.class
+    by P is = subst P at is
+before_each params e index Decent below above at low high =
+    before_four params e index below above above above low
+    (before_same params e index Tight Loose above (by (λ c. adjacent_demerits params c Tight ≡ adjacent_demerits params c Loose) refl) high)
+    (before_same params e index Tight Decent above (by (λ c. adjacent_demerits params c Tight ≡ adjacent_demerits params c Decent) refl) high)
+    high
+  where
+    by : (P : Fitness → Type 0) → P Decent → P e.end.class
+    by P is = subst P at is
+before_each params e index Tight below above at low high =
+    before_four params e index below below above above low
+    (before_same params e index VeryLoose Loose below (by (λ c. adjacent_demerits params c VeryLoose ≡ adjacent_demerits params c Loose) refl) low)
+    (before_same params e index Tight Decent above (by (λ c. adjacent_demerits params c Tight ≡ adjacent_demerits params c Decent) refl) high)
+    high
+  where
+    by : (P : Fitness → Type 0) → P Tight → P e.end.class
+    by P is = subst P at is
 
 -- The better ones of two offers for each class.
 better_one :
@@ -291,17 +352,57 @@ best_in_row (suc cut) table params group place alone old new none is = absurd (o
 
 -- The best entries stay the best ones in a longer table.
 pub best_longer : (table more : List Entry) (params : Params) (lives : List Live) → HaveBest table params lives → HaveBest (table ++ more) params lives
-best_longer table more params lives are k live at none class o here =
-    let is = are k live at none class o here in
-    record {
-      low = is.low;
-      high = is.high;
-      within = omega (arith, is.within, length-append table more);
-      real = is.real;
-      entry = is.entry;
-      present = get_left table more o.index is.entry is.present;
-      is = is.is;
-      small = is.small;
-      class_bounded = is.class_bounded;
-      least = λ j f low high there. is.least j f low high (shorter table more j f (omega (arith, high, is.within)) there);
-    }
+best_longer table more params lives are k live at =
+    let is = are k live at in
+    (λ none class o here. best_in_longer class o (is.0 none class o here), met_longer is.1, covered_longer is.2)
+  where
+    best_in_longer : (class : Fitness) (o : Offer) → IsBestFor table params class live.group.start live.group.end o → IsBestFor (table ++ more) params class live.group.start live.group.end o
+    best_in_longer class o is =
+        record {
+          low = is.low;
+          high = is.high;
+          within = omega (arith, is.within, length-append table more);
+          real = is.real;
+          entry = is.entry;
+          present = get_left table more o.index is.entry is.present;
+          is = is.is;
+          small = is.small;
+          class_bounded = is.class_bounded;
+          least = λ j f low high there. is.least j f low high (shorter table more j f (omega (arith, high, is.within)) there);
+        }
+
+    met_longer : IsMetBy table live.meets live.group → IsMetBy (table ++ more) live.meets live.group
+    met_longer is =
+        record {
+          within = omega (arith, is.within, length-append table more);
+          each = λ k e low high there.
+              let m = is.each k e low high (shorter table more k e (omega (arith, high, is.within)) there) in
+              record {
+                index = m.index;
+                low = m.low;
+                high = m.high;
+                entry = m.entry;
+                present = get_left table more m.index m.entry m.present;
+                lines = m.lines;
+                class = m.class;
+                as_good = m.as_good;
+              };
+        }
+
+    covered_longer : IsCoveredBy table live.group live.covered_by → IsCoveredBy (table ++ more) live.group live.covered_by
+    covered_longer is =
+        record {
+          within = omega (arith, is.within, length-append table more);
+          each = λ k e low high there.
+              let m = is.each k e low high (shorter table more k e (omega (arith, high, is.within)) there) in
+              record {
+                index = m.index;
+                low = m.low;
+                high = m.high;
+                entry = m.entry;
+                present = get_left table more m.index m.entry m.present;
+                lines = m.lines;
+                class = m.class;
+                at_most = m.at_most;
+              };
+        }

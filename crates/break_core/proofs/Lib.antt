@@ -1,5 +1,6 @@
 -- Lemmas on tables of paragraphs, on passes, and on the active list.
 pub mod Filled
+pub mod Admitted
 pub mod Admitting
 pub mod Overfull
 pub mod Waiting
@@ -14,3 +15,4 @@ pub mod Lives
 pub mod Offers
 pub mod BestOffers
 pub mod BestEntries
+pub mod Held

@@ -1,7 +1,8 @@
 -- When trying lines from a group stops, and which lines are left out.
 use Rattle.std.proofs.Common.{◌≡◌, ◌∙◌, ℕ, ◌+◌, ◌<◌, ◌≤◌, Bool, true, false, cond, ◌||◌, refl, ap, sym, arith, Option, None, List}
 use Rattle.std.specs.Prelude.{ℤ}
-use Rattle.std.proofs.lemmas.Bool.{cond-true, cond-false}
+use Rattle.std.proofs.Math.Logic.{◌⊎◌, inl, inr}
+use Rattle.std.proofs.lemmas.Bool.{cases_Bool, cond-true, cond-false}
 use Rattle.node_core.specs.declared.params.Params.{Params}
 use Rattle.break_lines.specs.declared.group.ActiveGroup.{ActiveGroup}
 use Rattle.break_lines.specs.declared.state.BreakState.{BreakState}
@@ -24,7 +25,8 @@ use Rattle.break_core.specs.Private.LeftOut.{is_long, over_before, is_more, kept
 use Rattle.break_core.specs.Private.Active.{stops_after, leaves_out, stops_at, problem_leaving_out, MayStop, IsSilentWithin}
 use Rattle.break_core.proofs.Active.{row_same}
 use Rattle.break_core.proofs.Filled.{fit_is}
-use Rattle.break_core.proofs.Overfull.{no_offer, overfull_silent}
+use Rattle.break_core.proofs.Overfull.{no_offer, overfull_silent, overfull_stays}
+use Rattle.break_core.proofs.Detours.{first_is, long_means}
 use Rattle.break_core.proofs.Long.{long_is, over_next, long_stays}
 
 -- Whether a line that was tried is long, and the stored value after it.
@@ -115,3 +117,31 @@ stopped_silent f params bound table b g Overfull o long stopped is same_over sam
     overfull_silent f params bound table b g may group (sym same_over ∙ sym is ∙ yes_stopped)
 stopped_silent f params bound table b g Long o long stopped is same_over same_long may group yes_stopped =
     long_silent f params bound table b g may.0.steady group (sym same_long ∙ sym is ∙ yes_stopped)
+
+-- In a steady paragraph a long line is overfull: it is wider than an earlier line that is overfull.
+long_overfull :
+    (f : Facts) (params : Params) (a b : ℕ) → IsSteady f → b ≤ f.places → is_long f params a b ≡ true → is_overfull f params a b ≡ true
+long_overfull f params a b steady within is =
+    let means = long_means f params a b is in
+    let first = first_is f params a b means.0 means.1 in
+    overfull_stays f params a means.0 b steady first.later (omega (arith, first.before)) within first.over
+
+-- Only an overfull line is left out.
+pub none_left_out :
+    (f : Facts) (params : Params) (bound : Bound) (rule : StopRule) (a b : ℕ)
+    → MayStop rule f params bound → b ≤ f.places → is_overfull f params a b ≡ false → leaves_out rule (is_long f params a b) ≡ false
+none_left_out f params bound Never a b may within fits = refl
+none_left_out f params bound Overfull a b may within fits = refl
+none_left_out f params bound Long a b may within fits = cases (cases_Bool (is_long f params a b))
+  where
+    cases : (is_long f params a b ≡ true) ⊎ (is_long f params a b ≡ false) → is_long f params a b ≡ false
+    cases (inr is) = is
+    cases (inl is) =
+        let over = long_overfull f params a b may.0.steady within is in
+        absurd (cc)
+
+-- Trying does not stop after a line that is neither overfull nor long.
+pub none_stops : (rule : StopRule) (overfull long : Bool) → overfull ≡ false → long ≡ false → false ≡ stops_after rule overfull long
+none_stops Never overfull long fits short = refl
+none_stops Overfull overfull long fits short = sym fits
+none_stops Long overfull long fits short = sym short

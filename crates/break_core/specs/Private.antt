@@ -3,3 +3,4 @@ pub mod Active
 pub mod Filling
 pub mod Offers
 pub mod LeftOut
+pub mod Held

@@ -2,20 +2,26 @@
 
 ghost use Rattle.std.specs.Prelude.{◌≡◌, ◌<◌, ◌≤◌, ◌+◌, ◌++◌, ℕ, true, [], ◌∷◌, length, take, drop, set, slice_get};
 ghost use Rattle.std.specs.Prelude.{Some, None, if◌then◌else◌, OnOk};
+ghost use Rattle.break_lines.specs.Sizes.{least_width};
+ghost use Rattle.break_lines.specs.SmallCosts.{IsSmallSums};
 ghost use Rattle.break_core.specs.Private.LeftOut.{is_more, kept_over};
 ghost use Rattle.break_core.specs.Private.Active.{with_live, live_of};
 
 use crate::row::Offer;
-use break_lines::ActiveGroup;
+use break_lines::{ActiveGroup, Sums};
 use std::alloc::AllocError;
 
 /// A group of entries from which lines are tried. `over` is the width, shrunk as far as possible, of the line to the first place to which it was
-/// overfull. `best` has for each class, if no lines are counted, the entry that makes the best offer by a line of this class.
+/// overfull. `best` has for each class, if no lines are counted, the entry that makes the best offer by a line of this class. If lines are counted,
+/// `meets` is an earlier group whose offers by the same line are met by those of this one, and `covered_by` is one that has entries for the same
+/// states with totals that are at most those of this one. Each is this group itself if there is no such group.
 #[derive(Clone, Copy, Debug, PartialEq, Eq)]
 pub(crate) struct Live {
     pub(crate) group: ActiveGroup,
     pub(crate) over: Option<i64>,
     pub(crate) best: [Offer; 4],
+    pub(crate) meets: ActiveGroup,
+    pub(crate) covered_by: ActiveGroup,
 }
 
 /// The groups from which lines are tried, in the order of their places: those of a list from number `first` on. Mostly trying stops from the first
@@ -34,6 +40,19 @@ impl LiveGroups {
     {
         self.first >= self.list.len()
     }
+}
+
+/// The last group of a list, or this group if the list is empty.
+#[inline]
+pub(crate) fn last_group<const COUNTED: bool>(
+    lives: &LiveGroups,
+    group: ActiveGroup,
+) -> ActiveGroup {
+    let count = lives.list.len();
+    if !COUNTED || count == 0 {
+        return group;
+    }
+    lives.list[count - 1].group
 }
 
 /// How many groups from which trying has stopped stay in front of the others.
@@ -71,11 +90,36 @@ pub(crate) fn kept_over(over: Option<i64>, overfull: bool, width: i64) -> Option
 pub(crate) fn keep_over(lives: &mut Vec<Live>, index: usize, overfull: bool, width: i64)
     requires index_bounded { index < length lives.old.items }
     ensures { (live : Live) → slice_get lives.old.items index ≡ Some live →
-        lives.new.items ≡ set lives.old.items index (record { group = live.group; over = kept_over live.over overfull width; best = live.best }) }
+        lives.new.items ≡ set lives.old.items index (record {
+          group = live.group;
+          over = kept_over live.over overfull width;
+          best = live.best;
+          meets = live.meets;
+          covered_by = live.covered_by;
+        }) }
 {
     if overfull {
         let over = kept_over(lives[index].over, overfull, width);
         lives[index].over = over;
+    }
+}
+
+/// The same after a line with these sums. The width is computed only for an overfull line.
+#[inline(always)]
+pub(crate) fn keep_over_after(lives: &mut Vec<Live>, index: usize, overfull: bool, sums: &Sums)
+    requires index_bounded { index < length lives.old.items }
+    requires sums_bounded { IsSmallSums sums.now }
+    ensures { (live : Live) → slice_get lives.old.items index ≡ Some live → lives.new.items ≡ set lives.old.items index
+        (record {
+          group = live.group;
+          over = kept_over live.over overfull (least_width sums.now);
+          best = live.best;
+          meets = live.meets;
+          covered_by = live.covered_by;
+        }) }
+{
+    if overfull {
+        keep_over(lives, index, overfull, sums.least_width());
     }
 }
 
@@ -108,18 +152,6 @@ pub(crate) fn keep_group(lives: &mut LiveGroups, stopped: bool, kept: usize, ind
     kept + 1
 }
 
-/// The number of the first group that waits for a place, after the line from group number `next - 1`; before that line it was `end`. All groups that
-/// come next may wait.
-#[inline(always)]
-pub(crate) fn first_waiting(all_wait: bool, next: usize, end: usize) -> usize
-    ensures { result ≡ (if all_wait then next else end) }
-{
-    if all_wait {
-        return next;
-    }
-    end
-}
-
 /// The groups of a list from a number on.
 #[inline(always)]
 pub(crate) fn rest_of(lives: &[Live], from: usize) -> &[Live]
@@ -148,7 +180,7 @@ pub(crate) fn remove_groups(lives: &mut Vec<Live>, kept: usize, next: usize)
 
 /// Removes the groups from which trying has stopped, if there are many, or all groups.
 #[inline]
-fn remove_stopped(lives: &mut LiveGroups, all: bool)
+pub(crate) fn remove_stopped(lives: &mut LiveGroups, all: bool)
     requires first_bounded { lives.old.first ≤ length lives.old.list.items }
     ensures left { live_of lives.new ≡ (if all then [] else live_of lives.old) }
     ensures first_bounded { lives.new.first ≤ length lives.new.list.items }
@@ -163,19 +195,4 @@ fn remove_stopped(lives: &mut LiveGroups, all: bool)
     }
     remove_groups(&mut lives.list, 0, lives.first);
     lives.first = 0;
-}
-
-/// Appends the group of a place to those of earlier places, unless it has no entries. If a break at the place is forced, the earlier groups are
-/// removed first.
-#[inline]
-pub(crate) fn add_group(lives: &mut LiveGroups, forced: bool, live: Live) -> Result<(), AllocError>
-    requires first_bounded { lives.old.first ≤ length lives.old.list.items }
-    ensures groups { OnOk result (live_of lives.new ≡ with_live (if forced then [] else live_of lives.old) live) }
-    ensures first_bounded { lives.new.first ≤ length lives.new.list.items }
-{
-    remove_stopped(lives, forced);
-    if live.group.start != live.group.end {
-        lives.list.push(live)?;
-    }
-    Ok(())
 }

@@ -1,6 +1,6 @@
 //! The table of a paragraph in a pass, which is filled place by place.
 
-ghost use Rattle.std.specs.Prelude.{◌≡◌, ◌+◌, ◌<◌, ◌≤◌, ◌<ℤ◌, pos, true, false, length, OnOk, IfOk};
+ghost use Rattle.std.specs.Prelude.{◌≡◌, ◌+◌, ◌<◌, ◌≤◌, ◌<ℤ◌, ◌⊎◌, pos, true, false, length, OnOk, IfOk};
 ghost use Rattle.break_lines.specs.Tables.{IsTable, IsRow};
 ghost use Rattle.break_lines.specs.Problems.{max_places};
 ghost use Rattle.break_lines.specs.Even.{IsEven};
@@ -12,11 +12,11 @@ ghost use Rattle.break_core.specs.Private.Active.{AreOver, HaveBest, IsActive, I
 ghost use Rattle.break_core.specs.Private.Active.{IsCounted};
 ghost use Rattle.break_core.specs.Private.Active.{TrialsOnlyGrow, WasTried};
 
-use crate::active_list::{
-    LiveGroups, add_group, first_waiting, keep_group, keep_over, remove_groups, rest_of,
-};
+use crate::active_list::{LiveGroups, keep_group, keep_over_after, remove_groups, rest_of};
+use crate::counted::try_counted_lines;
 use crate::offering::{
-    TriedPlace, all_wait, is_overfull, judge, new_live, offer_line, offer_waiting,
+    TriedPlace, add_entries, all_wait, either, is_overfull, judge, new_live, offer_line,
+    offer_waiting,
 };
 use crate::pass_rules::Rules;
 use crate::row::{Row, move_row, new_row};
@@ -33,20 +33,94 @@ struct FilledTable {
 /// For how many groups there is room from the start. Few paragraphs need more.
 const USUAL_GROUPS: usize = 32;
 
-/// Whether entries were offered before, or were offered now.
+/// Whether a line is tried from another group: there is one, and it does not wait.
 #[inline(always)]
-fn either(before: bool, now: bool) -> bool
-    ensures { result ≡ false → (before ≡ false) × (now ≡ false) }
+fn has_next(index: usize, end: usize, waits: bool) -> bool
+    ensures next { result ≡ true → index < end }
+    ensures none { result ≡ false → (end ≤ index) ⊎ (waits ≡ true) }
 {
-    before || now
+    if waits {
+        return false;
+    }
+    index < end
 }
 
-/// Tries the line to a place once from each live group, keeps those from which lines to later places are tried, and carries `over` on to the next
-/// place. If groups wait, then all later groups wait after a line that is stretched so much that the lines from all of them cost the same as the
-/// loosest line. The groups stay in place, since most of them are kept. Returns whether entries were offered. The function is not inlined, so that
-/// its loop has all registers.
+/// If no lines are counted, tries the line to a place once from each live group, keeps those from which lines to later places are tried, and
+/// carries `over` on to the next place. If groups wait, then all later groups wait after a line that is stretched so much that the lines from all of
+/// them cost the same as the loosest line. The groups stay in place, since most of them are kept. Returns whether entries were offered. The function
+/// is not inlined, so that its loop has all registers.
 #[inline(never)]
-fn try_lines<M: Meter, const COUNTED: bool>(
+fn try_lines<M: Meter>(
+    meter: &mut M,
+    at: &TriedPlace,
+    lives: &mut LiveGroups,
+    row: &mut Row,
+) -> bool
+    requires uncounted { at.now.rules.now.params.now.first_lines ≡ 0 }
+    requires first { 0 < at.now.place }
+    requires last { at.now.place ≤ (M.facts meter.old).places }
+    requires places { at.now.place ≤ max_places }
+    requires penalty { at.now.penalty ≡ (M.facts meter.old).penalty at.now.place }
+    requires penalty_bounded { at.now.penalty <ℤ pos 10000 }
+    requires filled { IsFilled (problem_leaving_out (M.facts meter.old) at.now.rules.now.params.now at.now.rules.now.bound at.now.rules.now.stop_rule)
+        (stops_at (M.facts meter.old) at.now.rules.now.params.now at.now.rules.now.stop_rule) at.now.place at.now.table.now
+        (groups_of (live_of lives.old)) }
+    requires over { AreOver (M.facts meter.old) at.now.rules.now.params.now at.now.place (live_of lives.old) }
+    requires best { HaveBest at.now.table.now at.now.rules.now.params.now (live_of lives.old) }
+    requires first_bounded { lives.old.first ≤ length lives.old.list.items }
+    requires empty { IsEmpty at.now.rules.now.params.now.first_lines row.old }
+    requires may { MayStop at.now.rules.now.stop_rule (M.facts meter.old) at.now.rules.now.params.now at.now.rules.now.bound }
+    requires waits { at.now.rules.now.waits ≡ true → IsEven (M.facts meter.old) }
+    requires trials_bounded { CountsMayGrow 1 (M.trials meter.old) }
+    ensures row { IsRow (problem_leaving_out (M.facts meter.old) at.now.rules.now.params.now at.now.rules.now.bound at.now.rules.now.stop_rule)
+        at.now.table.now at.now.place (length at.now.table.now)
+        (row_at at.now.rules.now.params.now.first_lines at.now.table.now at.now.place row.new) }
+    ensures held { at.now.rules.now.params.now.first_lines ≡ 0 → AreOffers at.now.table.now at.now.place row.new.offers }
+    ensures live { is_forced ((M.facts meter.old).penalty at.now.place) ≡ false →
+        IsActive (problem_leaving_out (M.facts meter.old) at.now.rules.now.params.now at.now.rules.now.bound at.now.rules.now.stop_rule)
+        (stops_at (M.facts meter.old) at.now.rules.now.params.now at.now.rules.now.stop_rule) at.now.table.now (at.now.place + 1) at.now.place 0 0
+        (groups_of (live_of lives.new)) }
+    ensures over { AreOver (M.facts meter.old) at.now.rules.now.params.now (at.now.place + 1) (live_of lives.new) }
+    ensures best { HaveBest at.now.table.now at.now.rules.now.params.now (live_of lives.new) }
+    ensures first_bounded { lives.new.first ≤ length lives.new.list.items }
+    ensures facts { M.facts meter.new ≡ M.facts meter.old }
+    ensures trials { IsSwept (stops_at (M.facts meter.old) at.now.rules.now.params.now at.now.rules.now.stop_rule) at.now.place
+        (M.trials meter.old) (M.trials meter.new) }
+    ensures kept { TrialsOnlyGrow (M.trials meter.old) (M.trials meter.new) }
+    ensures tried { WasTried (groups_of (live_of lives.old)) (M.trials meter.old) (M.trials meter.new) }
+    ensures untouched { result ≡ false → IsSameRow row.old row.new }
+{
+    let rules = at.rules;
+    let place = at.place;
+    let mut offered = false;
+    let mut kept = lives.first;
+    let mut index = lives.first;
+    let end = lives.list.len();
+    let mut waits = false;
+    while has_next(index, end, waits) {
+        let live = &lives.list[index];
+        let sums = meter.try_line(live.group.place, place);
+        let line = judge(sums, rules.params);
+        let overfull = is_overfull::<false>(&line, rules.params);
+        let left_out = rules
+            .stop_rule
+            .leaves_out_overfull(live.over, overfull, &line.sums);
+        let stopped = rules.stop_rule.stops_after_overfull(overfull, left_out);
+        keep_over_after(&mut lives.list, index, overfull, &line.sums);
+        let now = offer_line::<false>(left_out, row, at, &lives.list[index], &line);
+        offered = either(offered, now);
+        kept = keep_group(lives, stopped, kept, index);
+        index += 1;
+        waits = all_wait::<false>(&line, rules);
+    }
+    let waiting = offer_waiting(row, at, rest_of(&lives.list, index));
+    remove_groups(&mut lives.list, kept, index);
+    either(offered, waiting)
+}
+
+/// Tries the lines to a place. The loop over the trials is another one if lines are counted. Returns whether entries were offered.
+#[inline(always)]
+fn try_each_line<M: Meter, const COUNTED: bool>(
     meter: &mut M,
     at: &TriedPlace,
     lives: &mut LiveGroups,
@@ -86,30 +160,10 @@ fn try_lines<M: Meter, const COUNTED: bool>(
     ensures tried { WasTried (groups_of (live_of lives.old)) (M.trials meter.old) (M.trials meter.new) }
     ensures untouched { result ≡ false → IsSameRow row.old row.new }
 {
-    let rules = at.rules;
-    let place = at.place;
-    let mut offered = false;
-    let mut kept = lives.first;
-    let mut index = lives.first;
-    let mut end = lives.list.len();
-    while index < end {
-        let live = &lives.list[index];
-        let sums = meter.try_line(live.group.place, place);
-        let width = sums.least_width();
-        let line = judge(sums, rules.params);
-        let overfull = is_overfull::<COUNTED>(&line, rules.params);
-        let left_out = rules.stop_rule.leaves_out(live.over, width);
-        let stopped = rules.stop_rule.stops_after(overfull, left_out);
-        keep_over(&mut lives.list, index, overfull, width);
-        let now = offer_line::<COUNTED>(left_out, row, at, &lives.list[index], &line);
-        offered = either(offered, now);
-        kept = keep_group(lives, stopped, kept, index);
-        index += 1;
-        end = first_waiting(all_wait::<COUNTED>(&line, rules), index, end);
+    if COUNTED {
+        return try_counted_lines(meter, at, lives, row);
     }
-    let waiting = offer_waiting(row, at, rest_of(&lives.list, end));
-    remove_groups(&mut lives.list, kept, end);
-    either(offered, waiting)
+    try_lines(meter, at, lives, row)
 }
 
 /// Whether a place has no entries, and a break there is not forced. Then the table and the groups stay as they are.
@@ -161,7 +215,7 @@ fn add_place<M: Meter, const COUNTED: bool>(
         place,
         penalty: breakpoint.penalty,
     };
-    let offered = try_lines::<M, COUNTED>(meter, &at, &mut reached.live, row);
+    let offered = try_each_line::<M, COUNTED>(meter, &at, &mut reached.live, row);
     let forced = breakpoint.is_forced();
     if is_passed_over(offered, forced) {
         return Ok(());
@@ -178,8 +232,13 @@ fn add_place<M: Meter, const COUNTED: bool>(
         start,
         end: reached.table.len(),
     };
-    let live = new_live(&reached.table, group, rules.params);
-    add_group(&mut reached.live, forced, live)?;
+    add_entries::<COUNTED>(
+        &mut reached.live,
+        &reached.table,
+        group,
+        rules.params,
+        forced,
+    )?;
     Ok(())
 }
 
@@ -216,7 +275,7 @@ fn fill_places<M: Meter, const COUNTED: bool>(
         start: 0,
         end: 1,
     };
-    let live = new_live(&reached.table, group, rules.params);
+    let live = new_live::<COUNTED>(&reached.table, group, group, rules.params);
     reached.live.list.push(live)?;
     // The row is reused for all places.
     let mut row = new_row(alloc, rules.params.first_lines.get())?;

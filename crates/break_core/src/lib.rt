@@ -13,6 +13,7 @@
 mod active_list;
 mod breaking;
 mod broken;
+mod counted;
 mod filling;
 pub mod laws;
 mod offering;

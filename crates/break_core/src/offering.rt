@@ -1,24 +1,29 @@
 //! The offers of the entries of a group for a place, by a line that was tried from there.
 
-ghost use Rattle.std.specs.Prelude.{◌≡◌, ◌+◌, ◌<◌, ◌≤◌, ◌<ℤ◌, pos, ◌&&◌, true, false, length, slice_get, Some, None};
+ghost use Rattle.std.specs.Prelude.{◌≡◌, ◌+◌, ◌<◌, ◌≤◌, ◌<ℤ◌, pos, ◌&&◌, true, false, length, slice_get, Some, None, not, IfSome};
+ghost use Rattle.std.specs.Prelude.{[], if◌then◌else◌, OnOk};
 ghost use Rattle.break_lines.specs.Tables.{slots};
+ghost use Rattle.break_core.specs.declared.active_list.Live.{Live};
 ghost use Rattle.break_lines.specs.Problems.{max_places};
-ghost use Rattle.break_lines.specs.Costs.{line_fit, is_loosest};
+ghost use Rattle.break_lines.specs.Costs.{line_fit, is_loose, is_loosest, admits, line_alone};
 ghost use Rattle.break_lines.specs.Sizes.{fits_of_sums, IsSmallLineFits};
-ghost use Rattle.break_lines.specs.SmallCosts.{IsSmallSums, IsSmallAlone};
+ghost use Rattle.break_lines.specs.SmallCosts.{IsSmallSums, IsSmallLineFit, IsSmallAlone};
 ghost use Rattle.break_core.specs.Private.Filling.{IsKind, IsJudged, IsOf, CanOffer, IsOffering, IsOfferingUnless, IsOfferingBest};
 ghost use Rattle.break_core.specs.Private.Offers.{shown_from, row_at, AreOffers, IsBefore, AreBefore, IsBetter, AreBetter, AreBestFor};
 ghost use Rattle.break_core.specs.Private.Offers.{AreNumbered, IsSameRow};
+ghost use Rattle.break_core.specs.Private.Active.{is_limit, live_of, with_live};
 ghost use Rattle.break_core.specs.Private.Active.{HasBest, AreOffersBefore, CanOfferWaiting, IsOfferingEach, IsOfferingWaiting};
+ghost use Rattle.break_core.specs.Private.Active.{IsMetBy, AreAtMost, IsCoveredBy};
 
-use crate::active_list::Live;
+use crate::active_list::{Live, LiveGroups, last_group, remove_stopped};
 use crate::pass_rules::Rules;
 use crate::row::{Offer, Row, is_as_good, put_offer};
 use break_lines::{
-    ActiveGroup, Entry, Fitness, LineCost, LineFit, LineFits, Sums, fit_both, fit_line, is_loosest,
-    line_alone, offer,
+    ActiveGroup, Bound, BreakState, Entry, Fitness, LineCost, LineFit, LineFits, Sums, fit_both,
+    fit_line, line_alone, offer,
 };
 use node_core::Params;
+use std::alloc::AllocError;
 
 /// A place to which lines are tried: the rules of the pass, the table of all places before this one, its number, and the penalty of a break there.
 #[derive(Drop)]
@@ -60,29 +65,28 @@ fn offer_each(row: &mut Vec<Option<Entry>>, at: &TriedPlace, group: ActiveGroup,
     }
 }
 
-/// Offers the entries of a group for a place, by a line with these sums that was tried from there, unless it is left out. Returns whether entries
-/// were offered.
+/// Offers the entries of a group for a place, by a line that was tried and judged from there, unless it is left out. Returns whether entries were
+/// offered.
 #[cold]
 #[inline(never)]
-fn offer_counted(
+pub(crate) fn offer_counted(
     left_out: bool,
     row: &mut Vec<Option<Entry>>,
     at: &TriedPlace,
     group: ActiveGroup,
-    sums: &Sums,
+    line: &LineFits,
 ) -> bool
     requires can { CanOffer at.now.rules.now.params.now.first_lines row.old.items at.now.table.now group at.now.place at.now.penalty }
-    requires sums_bounded { IsSmallSums sums.now }
+    requires fit_bounded { IsSmallLineFits line.now }
     ensures row { IsOfferingUnless left_out at.now.table.now at.now.rules.now.params.now at.now.rules.now.bound group at.now.place at.now.penalty
-        (fits_of_sums at.now.rules.now.params.now sums.now) row.old.items row.new.items }
+        line.now row.old.items row.new.items }
     ensures wide { length row.new.items ≡ slots at.now.rules.now.params.now.first_lines }
     ensures untouched { result ≡ false → row.new.items ≡ row.old.items }
 {
     if left_out {
         return false;
     }
-    let line = fit_both(sums, at.rules.params);
-    offer_each(row, at, group, &line);
+    offer_each(row, at, group, line);
     true
 }
 
@@ -100,17 +104,20 @@ fn offer_before(entry: Entry, index: usize, params: &Params, class: Fitness) -> 
     }
 }
 
-/// Entry number `index` of its table before lines of each class.
+/// Entry number `index` of its table before lines of each class. The entry costs the same before each line whose class is near its own, and the same
+/// before each other line.
 #[inline(always)]
 fn offers_before(entry: Entry, index: usize, params: &Params) -> [Offer; 4]
     ensures { AreBefore params.now entry index result }
 {
-    [
-        offer_before(entry, index, params, Fitness::VeryLoose),
-        offer_before(entry, index, params, Fitness::Loose),
-        offer_before(entry, index, params, Fitness::Decent),
-        offer_before(entry, index, params, Fitness::Tight),
-    ]
+    let below = offer_before(entry, index, params, Fitness::VeryLoose);
+    let above = offer_before(entry, index, params, Fitness::Tight);
+    match entry.end().class {
+        Fitness::VeryLoose => [below, below, above, above],
+        Fitness::Loose => [below, below, below, above],
+        Fitness::Decent => [below, above, above, above],
+        Fitness::Tight => [below, below, above, above],
+    }
 }
 
 /// The better one of two offers.
@@ -157,34 +164,182 @@ fn best_of(table: &[Entry], group: ActiveGroup, params: &Params) -> [Offer; 4]
     best
 }
 
-/// The entries of a group that make the best offers, if it has entries and no lines are counted; else nothing is known of the offers.
+/// The entries of a group that make the best offers, if no lines are counted; else nothing is known of the offers.
 #[inline(always)]
-fn best_offers(table: &[Entry], group: ActiveGroup, params: &Params) -> [Offer; 4]
+fn best_offers<const COUNTED: bool>(
+    table: &[Entry],
+    group: ActiveGroup,
+    params: &Params,
+) -> [Offer; 4]
+    requires kind { IsKind COUNTED params.now.first_lines }
+    requires has_entries { group.start < group.end }
     requires group_bounded { group.end ≤ length table.now }
-    ensures { params.now.first_lines ≡ 0 → group.start < group.end → AreBestFor table.now params.now group.start group.end result }
+    ensures { params.now.first_lines ≡ 0 → AreBestFor table.now params.now group.start group.end result }
 {
-    if params.first_lines.get() > 0 {
-        return [Offer::NONE; 4];
-    }
-    if group.start >= group.end {
+    if COUNTED {
         return [Offer::NONE; 4];
     }
     best_of(table, group, params)
 }
 
+/// The number of the first entry among numbers `from` to `end` that has the lines and the class of a state, or `end` or more.
+fn number_of_state(table: &[Entry], state: BreakState, from: usize, end: usize) -> usize
+    requires end_bounded { end ≤ length table.now }
+    ensures low { from ≤ result }
+    ensures found { result < end → (e : Entry) → slice_get table.now result ≡ Some e → (e.end.lines ≡ state.lines) × (e.end.class ≡ state.class) }
+{
+    let mut index = from;
+    while index < end {
+        let other = table[index].end();
+        if other.lines == state.lines && other.class == state.class {
+            return index;
+        }
+        index += 1;
+    }
+    index
+}
+
+/// Whether for each entry of an earlier group a later one has an entry for the same lines and class that is as good or better. Entries of both have
+/// the same order.
+fn is_met(table: &[Entry], earlier: ActiveGroup, later: ActiveGroup) -> bool
+    requires later_bounded { later.end ≤ length table.now }
+    ensures { result ≡ true → IsMetBy table.now earlier later }
+{
+    if earlier.end > table.len() {
+        return false;
+    }
+    let mut by = later.start;
+    for index in earlier.start..earlier.end {
+        let entry = table[index];
+        by = number_of_state(table, entry.end(), by, later.end);
+        if by >= later.end {
+            return false;
+        }
+        if !table[by].is_not_after(entry) {
+            return false;
+        }
+    }
+    true
+}
+
+/// The group that a new one meets, if lines are counted: the previous one, if it does, and else itself.
+#[inline]
+fn group_met<const COUNTED: bool>(
+    table: &[Entry],
+    group: ActiveGroup,
+    previous: ActiveGroup,
+) -> ActiveGroup
+    requires group_bounded { group.end ≤ length table.now }
+    ensures { IsMetBy table.now result group }
+{
+    if COUNTED && is_met(table, previous, group) {
+        return previous;
+    }
+    group
+}
+
+/// Whether the totals of an entry are at most those of another one.
+fn is_at_most(a: Entry, b: Entry) -> bool
+    ensures { result ≡ true → AreAtMost a b }
+{
+    if a.overhang() < b.overhang() {
+        return true;
+    }
+    if a.overhang() > b.overhang() {
+        return false;
+    }
+    a.demerits() <= b.demerits()
+}
+
+/// Whether for each entry of a later group an earlier one has an entry for the same lines and class whose totals are at most as great.
+fn is_covered(table: &[Entry], later: ActiveGroup, earlier: ActiveGroup) -> bool
+    requires later_bounded { later.end ≤ length table.now }
+    ensures { result ≡ true → IsCoveredBy table.now later earlier }
+{
+    if earlier.end > table.len() {
+        return false;
+    }
+    let mut by = earlier.start;
+    for index in later.start..later.end {
+        let entry = table[index];
+        by = number_of_state(table, entry.end(), by, earlier.end);
+        if by >= earlier.end {
+            return false;
+        }
+        if !is_at_most(table[by], entry) {
+            return false;
+        }
+    }
+    true
+}
+
+/// The group that covers a new one, if lines are counted: the previous one, if it does, and else itself.
+#[inline]
+fn group_covering<const COUNTED: bool>(
+    table: &[Entry],
+    group: ActiveGroup,
+    previous: ActiveGroup,
+) -> ActiveGroup
+    requires group_bounded { group.end ≤ length table.now }
+    ensures { IsCoveredBy table.now group result }
+{
+    if COUNTED && is_covered(table, group, previous) {
+        return previous;
+    }
+    group
+}
+
 /// A group from which no line has been tried yet.
 #[inline(always)]
-pub(crate) fn new_live(table: &[Entry], group: ActiveGroup, params: &Params) -> Live
+pub(crate) fn new_live<const COUNTED: bool>(
+    table: &[Entry],
+    group: ActiveGroup,
+    previous: ActiveGroup,
+    params: &Params,
+) -> Live
+    requires kind { IsKind COUNTED params.now.first_lines }
+    requires has_entries { group.start < group.end }
     requires group_bounded { group.end ≤ length table.now }
     ensures group { result.group ≡ group }
     ensures over { result.over ≡ None }
-    ensures best { group.start < group.end → HasBest table.now params.now result }
+    ensures best { HasBest table.now params.now result }
 {
     Live {
         group,
         over: None,
-        best: best_offers(table, group, params),
+        best: best_offers::<COUNTED>(table, group, params),
+        meets: group_met::<COUNTED>(table, group, previous),
+        covered_by: group_covering::<COUNTED>(table, group, previous),
     }
+}
+
+/// Appends the group of a place to those of earlier places, unless it has no entries. If a break at the place is forced, the earlier groups are
+/// removed first. What is known of the entries of a group is computed only if there are some.
+#[inline(always)]
+pub(crate) fn add_entries<const COUNTED: bool>(
+    lives: &mut LiveGroups,
+    table: &[Entry],
+    group: ActiveGroup,
+    params: &Params,
+    forced: bool,
+) -> Result<(), AllocError>
+    requires kind { IsKind COUNTED params.now.first_lines }
+    requires first_bounded { lives.old.first ≤ length lives.old.list.items }
+    requires rises { group.start ≤ group.end }
+    requires group_bounded { group.end ≤ length table.now }
+    ensures groups { OnOk result ((live : Live) × (live.group ≡ group) × (live.over ≡ None)
+        × (group.start < group.end → HasBest table.now params.now live)
+        × (live_of lives.new ≡ with_live (if forced then [] else live_of lives.old) live)) }
+    ensures first_bounded { OnOk result (lives.new.first ≤ length lives.new.list.items) }
+{
+    let previous = last_group::<COUNTED>(lives, group);
+    remove_stopped(lives, forced);
+    if group.start == group.end {
+        return Ok(());
+    }
+    let live = new_live::<COUNTED>(table, group, previous, params);
+    lives.list.push(live)?;
+    Ok(())
 }
 
 /// Offers the entries of a group by a line, if no lines are counted. All offers are for one state then, so the best one is enough, and no entry is
@@ -236,6 +391,70 @@ pub(crate) fn is_overfull<const COUNTED: bool>(line: &JudgedLine, params: &Param
     line.fit.overfull
 }
 
+/// Whether a pass with a bound admits overfull lines.
+#[inline(always)]
+fn admits_overfull(bound: &Bound) -> bool
+    ensures { result ≡ not (is_limit bound.now) }
+{
+    match bound {
+        Bound::Any => true,
+        Bound::AtMost(_) => false,
+    }
+}
+
+/// Whether a pass admits a line. For a line that is not overfull, one number tells.
+#[inline(always)]
+fn is_admitted(rules: &Rules, fit: &LineFit) -> bool
+    requires { IsSmallLineFit fit.now }
+    ensures { result ≡ admits rules.now.bound fit.now }
+{
+    if fit.overfull {
+        return admits_overfull(&rules.bound);
+    }
+    i64::from(fit.badness) <= rules.most
+}
+
+/// The line that ends at a penalty, if the pass admits it, without the demerits for the class of the line before it.
+#[inline(always)]
+fn admitted_alone(rules: &Rules, penalty: i32, fit: &LineFit) -> Option<LineCost>
+    requires penalty { penalty <ℤ pos 10000 }
+    requires fit_bounded { IsSmallLineFit fit.now }
+    ensures value { result ≡ line_alone rules.now.params.now rules.now.bound penalty fit.now }
+    ensures costs_bounded { IfSome result IsSmallAlone }
+{
+    if !is_admitted(rules, fit) {
+        return None;
+    }
+    line_alone(rules.params, &Bound::Any, penalty, fit)
+}
+
+/// Whether lines of a class are stretched by more than a badness of 12.
+#[tactic(auto, unfolding(break_lines::specs::Costs::is_loose))]
+#[inline(always)]
+fn is_loose(class: Fitness) -> bool
+    ensures { result ≡ is_loose class }
+{
+    match class {
+        Fitness::VeryLoose => true,
+        Fitness::Loose => true,
+        Fitness::Decent => false,
+        Fitness::Tight => false,
+    }
+}
+
+/// Whether groups wait, and a line is so loose that a line that is stretched by more costs the same in the pass.
+#[inline(always)]
+fn is_too_loose(rules: &Rules, fit: &LineFit) -> bool
+    requires { IsSmallLineFit fit.now }
+    ensures waits { result ≡ true → rules.now.waits ≡ true }
+    ensures loosest { result ≡ true → is_loosest rules.now.bound fit.now ≡ true }
+{
+    if i64::from(fit.badness) <= rules.loosest {
+        return false;
+    }
+    is_loose(fit.class)
+}
+
 /// Whether all later groups wait after a line: groups wait, and the line is so loose that a line that is stretched by more costs the same in the
 /// pass. No group waits if lines are counted.
 #[inline(always)]
@@ -249,10 +468,7 @@ pub(crate) fn all_wait<const COUNTED: bool>(line: &JudgedLine, rules: &Rules) ->
     if COUNTED {
         return false;
     }
-    if !rules.waits {
-        return false;
-    }
-    is_loosest(&rules.bound, &line.fit)
+    is_too_loose(rules, &line.fit)
 }
 
 /// Offers the entries of a group for a place, by a line that was tried from there, unless it is left out. Returns whether entries were offered.
@@ -281,13 +497,13 @@ pub(crate) fn offer_line<const COUNTED: bool>(
     ensures untouched { result ≡ false → IsSameRow row.old row.new }
 {
     if COUNTED {
-        return offer_counted(left_out, &mut row.counted, at, live.group, &line.sums);
+        let fits = fit_both(&line.sums, at.rules.params);
+        return offer_counted(left_out, &mut row.counted, at, live.group, &fits);
     }
     if left_out {
         return false;
     }
-    let rules = at.rules;
-    let Some(alone) = line_alone(rules.params, &rules.bound, at.penalty, &line.fit) else {
+    let Some(alone) = admitted_alone(at.rules, at.penalty, &line.fit) else {
         return false;
     };
     offer_best(&mut row.offers, at, live, alone);
@@ -312,6 +528,14 @@ fn offer_each_waiting(row: &mut Row, at: &TriedPlace, lives: &[Live], alone: Lin
         let live = &lives[index];
         offer_best(&mut row.offers, at, live, alone);
     }
+}
+
+/// Whether entries were offered before, or were offered now.
+#[inline(always)]
+pub(crate) fn either(before: bool, now: bool) -> bool
+    ensures { result ≡ false → (before ≡ false) × (now ≡ false) }
+{
+    before || now
 }
 
 /// Offers the entries of groups that wait for a place, if no lines are counted. The lines from all of them cost what the loosest line costs; mostly

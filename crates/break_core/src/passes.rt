@@ -15,7 +15,7 @@ ghost use Rattle.break_core.specs.Private.Active.{TrialsOnlyGrow, MayStop, IsWit
 
 use crate::broken::{Breaks, LineEnd, Pass};
 use crate::filling::fill;
-use crate::pass_rules::{Rules, StopRule, Trying};
+use crate::pass_rules::{Rules, StopRule, Trying, most_admitted, wait_limit};
 use break_lines::{Bound, BreakState, ChosenBreaks, Meter, chosen_list, line_size};
 use node_core::Params;
 use std::alloc::{AllocError, Global};
@@ -116,11 +116,16 @@ fn chosen_in<M: Meter>(
     ensures tried { OnOk result (M.trials meter.old 0 < M.trials meter.new 0) }
 {
     let places = meter.places();
+    let bound = bound_of(params, pass);
+    let waits = waits_in(meter, trying);
+    let most = most_admitted(&bound);
     let rules = Rules {
         params,
-        bound: bound_of(params, pass),
+        bound,
         stop_rule: stop_rule_in(meter, params, trying, pass),
-        waits: waits_in(meter, trying),
+        waits,
+        most,
+        loosest: wait_limit(waits, most),
     };
     let table = fill(alloc, meter, &rules)?;
     chosen_list(alloc, &table, places)

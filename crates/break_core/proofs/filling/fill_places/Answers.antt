@@ -18,7 +18,7 @@ loop-before-init g c =
     let group : live.group ≡ start_group = c.new_live-live.ensures.group in
     let table : c.push.new.self.items ≡ first_entry ∷ [] = search rules in
     let lives : c.push-2.new.self.items ≡ live ∷ [] = search rules in
-    let best : HasBest c.push.new.self.items params live = subst (λ t. HasBest t params live) c.deref.ensures.value (c.new_live-live.ensures.best (omega arith)) in
+    let best : HasBest c.push.new.self.items params live = subst (λ t. HasBest t params live) c.deref.ensures.value c.new_live-live.ensures.best in
     record {
       facts = refl;
       counted = counted_none stop (g.M.Meter.trials c.args.meter.now);
@@ -86,10 +86,10 @@ returns-then-is_empty-clause-tried g c =
     let none : groups_of (live_of live) ≡ [] = ap groups_of (c.is_empty.ensures c.if-is_empty.true) in
     started_none c.loop-before.before (groups_of (live_of live)) (g.M.Meter.trials c.args.meter.now) (g.M.Meter.trials c.loop-before.meter) none inv.begins inv.started
 
-pub new_live-live-requires : goal.new_live-live-requires
-new_live-live-requires g c =
+pub new_live-live-requires-clause-group_bounded : goal.new_live-live-requires-clause-group_bounded
+new_live-live-requires-clause-group_bounded g c =
     let table : c.push.new.self.items ≡ first_entry ∷ [] = search rules in
-    record { group_bounded = omega (arith, ap length (c.deref.ensures.value ∙ table)) }
+    omega (arith, ap length (c.deref.ensures.value ∙ table))
 
 pub returns-clause-table : goal.returns-clause-table
 returns-clause-table g c =

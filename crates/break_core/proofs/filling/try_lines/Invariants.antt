@@ -1,13 +1,13 @@
-use Rattle.std.proofs.Common.{false, ◌≡◌, ◌+◌, ◌-◌, ◌≤◌, ◌<◌, ℕ, length, drop, take}
-use Rattle.std.specs.Prelude.{slice_get, ◌⊎◌}
+use Rattle.std.proofs.Common.{true, false, ◌≡◌, ◌+◌, ◌-◌, ◌≤◌, ◌<◌, ℕ, length, drop, take}
+use Rattle.std.specs.Prelude.{slice_get}
 use Rattle.break_lines.specs.Tables.{slots, IsRow}
 use Rattle.break_core.specs.Private.Active.{stops_at, problem_leaving_out, groups_of, live_of, AreOver, HaveBest, IsActive, IsSwept, TrialsOnlyGrow, WasTried, AreLoosest}
 use Rattle.break_core.specs.Private.Offers.{row_at, AreOffers, IsSameRow}
 use Rattle.break_core.proofs.Active.{IsFront}
 use Rattle.break_core.proofs.filling.try_lines.Given as goal
 
-abbrev pub invariant-loop-index : goal.invariant-loop-index
-invariant-loop-index g l = record {
+abbrev pub invariant-loop-waits : goal.invariant-loop-waits
+invariant-loop-waits g l = record {
   wide : length (row_at l.at.rules.now.params.now.first_lines l.at.table.now l.at.place l.row) ≡ slots l.at.rules.now.params.now.first_lines;
   facts : g.M.Meter.facts l.meter ≡ g.M.Meter.facts l.initial.meter;
   swept : IsSwept (stops_at (g.M.Meter.facts l.initial.meter) l.at.rules.now.params.now l.at.rules.now.stop_rule) l.at.place (g.M.Meter.trials l.initial.meter) (g.M.Meter.trials l.meter);
@@ -28,11 +28,11 @@ invariant-loop-index g l = record {
   over : AreOver (g.M.Meter.facts l.initial.meter) l.at.rules.now.params.now (l.at.place + 1) (drop l.lives.first (take l.kept l.lives.list.items));
   best : HaveBest l.at.table.now l.at.rules.now.params.now (drop l.lives.first (take l.kept l.lives.list.items));
   index_bounded : l.index ≤ l.end;
-  end_bounded : l.end ≤ length l.initial.lives.list.items;
-  begins : (length l.initial.lives.list.items ≤ l.end) ⊎ (l.initial.lives.first < l.end);
-  waits : (length l.initial.lives.list.items ≤ l.end) ⊎ AreLoosest (g.M.Meter.facts l.initial.meter) l.at.rules.now.params.now l.at.rules.now.bound low l.at.place;
+  waits : l.waits ≡ true → AreLoosest (g.M.Meter.facts l.initial.meter) l.at.rules.now.params.now l.at.rules.now.bound low l.at.place;
+  begins : l.waits ≡ true → l.initial.lives.first < l.index;
+  end_is : l.end ≡ length l.initial.lives.list.items;
   untouched : l.offered ≡ false → IsSameRow l.initial.row l.row;
 }
 
-abbrev pub decreases-loop-index : goal.decreases-loop-index
-decreases-loop-index g l = l.end - l.index
+abbrev pub decreases-loop-waits : goal.decreases-loop-waits
+decreases-loop-waits g l = l.end - l.index

@@ -11,8 +11,8 @@ use Rattle.break_core.proofs.BestEntries.{best_in_row}
 use Rattle.break_core.proofs.Stopping.{row_left_out}
 use Rattle.break_core.proofs.offering.offer_line.Goals as goal
 
-pub line_alone-requires-clause-penalty : goal.line_alone-requires-clause-penalty
-line_alone-requires-clause-penalty g c = omega (arith, ints, c.requires.can.penalty_bounded)
+pub admitted_alone-requires-clause-penalty : goal.admitted_alone-requires-clause-penalty
+admitted_alone-requires-clause-penalty g c = omega (arith, ints, c.requires.can.penalty_bounded)
 
 pub offer_best-requires-clause-entries : goal.offer_best-requires-clause-entries
 offer_best-requires-clause-entries g c =
@@ -20,7 +20,7 @@ offer_best-requires-clause-entries g c =
     subst (λ n. IsOf n c.args.at.now.table.now c.args.live.now.group) none c.requires.can.entries
 
 pub offer_best-requires-clause-best : goal.offer_best-requires-clause-best
-offer_best-requires-clause-best g c = c.requires.best (kind_false g.row.COUNTED c.args.at.now.rules.now.params.now.first_lines c.requires.kind c.if-this-ne0.false)
+offer_best-requires-clause-best g c = c.requires.best.0 (kind_false g.row.COUNTED c.args.at.now.rules.now.params.now.first_lines c.requires.kind c.if-this-ne0.false)
 
 pub offer_best-requires-clause-held : goal.offer_best-requires-clause-held
 offer_best-requires-clause-held g c = c.requires.held (kind_false g.row.COUNTED c.args.at.now.rules.now.params.now.first_lines c.requires.kind c.if-this-ne0.false)
@@ -40,7 +40,7 @@ returns-in_default-clause-row g c =
     let none : rules.params.now.first_lines ≡ 0 = kind_false g.row.COUNTED c.args.at.now.rules.now.params.now.first_lines c.requires.kind c.if-this-ne0.false in
     let penalty : to_z w32 (of_z w32 at.penalty) ≡ at.penalty = omega (arith, ints) in
     none_line c.args.left_out c.args.at.now.table.now rules.params.now rules.bound c.args.live.now.group at.place at.penalty c.args.line.now.sums (row_at c.args.at.now.rules.now.params.now.first_lines c.args.at.now.table.now c.args.at.now.place c.args.row.now) none c.if-left_out.false
-    (sym c.in_default.is ∙ c.line_alone.ensures.value ∙ ap (λ x. line_alone rules.params.now rules.bound x c.args.line.now.fit) penalty
+    (sym c.in_default.is ∙ c.admitted_alone.ensures.value ∙ ap (λ x. line_alone rules.params.now rules.bound x c.args.line.now.fit) penalty
     ∙ ap (line_alone rules.params.now rules.bound at.penalty) c.requires.judged.fit)
     c.requires.can.rises c.requires.can.entries
 
@@ -58,7 +58,7 @@ returns-clause-row g c =
     let now : Row = record { offers = c.offer_best.new.offers; counted = c.args.row.now.counted } in
     best_line c.args.left_out table params rules.bound c.args.live.now.group at.place at.penalty c.args.line.now.sums c.in-Some.alone
     (row_at params.first_lines table at.place c.args.row.now) (row_at params.first_lines table at.place now) none c.if-left_out.false
-    (sym c.in-Some.is ∙ c.line_alone.ensures.value ∙ ap (λ x. line_alone params rules.bound x c.args.line.now.fit) penalty
+    (sym c.in-Some.is ∙ c.admitted_alone.ensures.value ∙ ap (λ x. line_alone params rules.bound x c.args.line.now.fit) penalty
     ∙ ap (line_alone params rules.bound at.penalty) c.requires.judged.fit)
     (best_in_row params.first_lines table params c.args.live.now.group at.place c.in-Some.alone c.args.row.now now none c.offer_best.ensures.row)
 
@@ -93,7 +93,9 @@ returns-then-this-ne0-clause-row g c =
     subst (λ r. IsOfferingUnless c.args.left_out table params rules.bound c.args.live.now.group at.place at.penalty line r (row_at n table at.place now))
     (sym (row_counted n table at.place c.args.row.now some))
     (subst (λ r. IsOfferingUnless c.args.left_out table params rules.bound c.args.live.now.group at.place at.penalty line c.args.row.now.counted.items r)
-    (sym (row_counted n table at.place now some)) c.offer_counted.ensures.row)
+    (sym (row_counted n table at.place now some))
+    (subst (λ fits. IsOfferingUnless c.args.left_out table params rules.bound c.args.live.now.group at.place at.penalty fits c.args.row.now.counted.items c.offer_counted.new.row.items)
+    c.fit_both-fits.ensures.value c.offer_counted.ensures.row))
 
 pub returns-then-this-ne0-clause-wide : goal.returns-then-this-ne0-clause-wide
 returns-then-this-ne0-clause-wide g c =

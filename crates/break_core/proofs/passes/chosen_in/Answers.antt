@@ -15,14 +15,14 @@ pub returns-clause-found : goal.returns-clause-found
 returns-clause-found g c =
     let f = g.M.Meter.facts c.args.meter.now in
     let params = c.args.params.now in
-    let bound = c.bound_of.result in
+    let bound = c.bound_of-bound.result in
     let rule = c.stop_rule_in.result in
     let p = problem_leaving_out f params bound rule in
-    let may : MayStop rule f params bound = subst (MayStop rule f params) (sym c.bound_of.ensures) c.stop_rule_in.ensures.may in
+    let may : MayStop rule f params bound = subst (MayStop rule f params) (sym c.bound_of-bound.ensures) c.stop_rule_in.ensures.may in
     let table : IsTable p (c.places-places.result + 1) c.deref.result.now =
     subst (IsTable p (c.places-places.result + 1)) (sym c.deref.ensures.value)
     (subst (λ n. IsTable p (n + 1) c.in_ok-table.table.items) (sym c.places-places.ensures.count) c.in_ok-table.ensures.table) in
-    subst (λ b. IfOk c.chosen_list.result (Found f params b)) c.bound_of.ensures
+    subst (λ b. IfOk c.chosen_list.result (Found f params b)) c.bound_of-bound.ensures
     (all_found f params bound rule c.chosen_list.result may (c.chosen_list.ensures p (sym c.places-places.ensures.count) table))
 
 pub returns-clause-trials : goal.returns-clause-trials
