@@ -1,11 +1,13 @@
 -- Lists of nodes and items are two forms of the same thing.
-use Rattle.std.proofs.Common.{◌≡◌, ◌≢◌, ◌∙◌, ℕ, ℤ, ◌+◌, ◌<◌, ◌≤◌, max, List, [], ◌∷◌, ◌++◌, length, take, get_or, refl, ap, sym, arith, Result, Ok, Err, length-append}
+use Rattle.std.proofs.Common.{◌≡◌, ◌≢◌, ◌∙◌, ℕ, ℤ, zero, suc, ◌+◌, ◌<◌, ◌≤◌, max, List, [], ◌∷◌, ◌++◌, length, take, get_or, refl, ap, sym, arith, Result, Ok, Err, length-append}
 use Rattle.std.specs.Prelude.{OnOk, OnErr}
-use Rattle.std.proofs.lemmas.List.{take_more}
+use Rattle.std.proofs.lemmas.List.{take_all, take_more}
 use Rattle.node_core.specs.declared.tree.Node.{Node}
 use Rattle.node_core.specs.declared.tree.Node.TheVariants.{Glyph, FontKern, Kern, Glue, Penalty, Rule, Special, Box}
 use Rattle.node_core.specs.declared.tree.BoxNode.{BoxNode}
 use Rattle.node_core.specs.Items.{Leaf, glyph, font_kern, kern, glue, penalty, rule, special, Items, none, leaf, box, items_count, items_depth, items_text}
+use Rattle.node_core.specs.declared.tree.HeapBox.TheDeep.{deep-Node}
+use Rattle.node_core.specs.Private.Nodes.{list_size}
 use Rattle.node_core.specs.Nodes.{max_nodes, IsPlain, items_of, node_of, nodes_of}
 
 -- The nodes of the items of a list are its nodes.
@@ -174,3 +176,50 @@ plain_text ((Penalty p) ∷ rest) is = omega (arith, plain_text rest is)
 plain_text ((Rule sizes) ∷ rest) is = omega (arith, plain_text rest is)
 plain_text ((Special text) ∷ rest) is = absurd (cc)
 plain_text ((Box shift b) ∷ rest) is = absurd (cc)
+
+-- A list nests at least as deep as the list after its first node, and deeper than each of its boxes.
+deeper : (x : Node) (rest : List Node) → items_depth (items_of rest) ≤ items_depth (items_of (x ∷ rest))
+deeper (Glyph g) rest = omega arith
+deeper (FontKern width) rest = omega arith
+deeper (Kern width) rest = omega arith
+deeper (Glue g) rest = omega arith
+deeper (Penalty p) rest = omega arith
+deeper (Rule sizes) rest = omega arith
+deeper (Special text) rest = omega arith
+deeper (Box shift b) rest = omega arith
+
+inner_shallower : (nodes : List Node) (i : ℕ) (x : Node) (shift : ℤ) (b : BoxNode) → i < length nodes → x ≡ get_or nodes i x → x ≡ Box shift b
+    → items_depth b.list < items_depth (items_of nodes)
+inner_shallower [] i x shift b below at is = absurd (omega arith)
+inner_shallower (y ∷ rest) zero x shift b below at is = let e : y ≡ Box shift b = sym at ∙ is in rw e (omega arith)
+inner_shallower (y ∷ rest) (suc i) x shift b below at is = omega (arith, deeper y rest, inner_shallower rest i x shift b (omega arith) at is)
+
+pub box_shallower : (items : Items) (nodes : List Node) (i : ℕ) (x : Node) (shift : ℤ) (b : BoxNode) → nodes ≡ nodes_of items → i < length nodes
+    → x ≡ get_or nodes i x → x ≡ Box shift b → items_depth b.list < items_depth items
+box_shallower items nodes i x shift b are below at is =
+    omega (arith, ap (λ l. items_depth (items_of l)) are, ap items_depth (items_of-nodes_of items), inner_shallower nodes i x shift b below at is)
+
+-- At the end of a loop over the nodes of a list, the nodes passed are the list.
+pub all_passed : (items : Items) (nodes : List Node) (i : ℕ) → nodes ≡ nodes_of items → length nodes ≤ i → items_of (take i nodes) ≡ items
+all_passed items nodes i are all = ap items_of (take_all i nodes all) ∙ ap items_of are ∙ items_of-nodes_of items
+
+-- A list is at least as large as each of its nodes, by the sizes that the models of a list and a box give them.
+node_smaller : (nodes : List Node) (i : ℕ) (x : Node) → i < length nodes → x ≡ get_or nodes i x → deep-Node x ≤ list_size (items_of nodes)
+node_smaller [] i x below at = absurd (omega arith)
+node_smaller (y ∷ rest) zero x below at = rw at (single y rest)
+  where
+    single : (y : Node) (rest : List Node) → deep-Node y ≤ list_size (items_of (y ∷ rest))
+    single (Glyph g) rest = omega arith
+    single (FontKern width) rest = omega arith
+    single (Kern width) rest = omega arith
+    single (Glue g) rest = omega arith
+    single (Penalty p) rest = omega arith
+    single (Rule sizes) rest = omega arith
+    single (Special text) rest = omega arith
+    single (Box shift b) rest = omega arith
+node_smaller (y ∷ rest) (suc i) x below at = omega (arith, deeper y rest, node_smaller rest i x (omega arith) at)
+
+pub node_of_list : (items : Items) (nodes : List Node) (i : ℕ) (x : Node) → nodes ≡ nodes_of items → i < length nodes → x ≡ get_or nodes i x
+    → deep-Node x ≤ list_size items
+node_of_list items nodes i x are below at =
+    omega (arith, ap (λ l. list_size (items_of l)) are, ap list_size (items_of-nodes_of items), node_smaller nodes i x below at)

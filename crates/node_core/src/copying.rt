@@ -12,12 +12,13 @@ impl NodeList {
     pub fn copy(&self, alloc: Global) -> Result<NodeList, AllocError>
         ensures { IfOk result (λ copy. copy ≡ self.now) }
     {
-        let mut nodes = Vec::with_capacity(alloc, self.nodes.len())?;
-        for node in &self.nodes {
+        let mut nodes = Vec::with_capacity(alloc, self.len())?;
+        for node in self.as_slice() {
             nodes.push(node.copy(alloc)?)?;
         }
         Ok(NodeList {
             nodes,
+            first: 0,
             plain: self.plain,
         })
     }

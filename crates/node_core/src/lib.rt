@@ -8,6 +8,7 @@ mod copying;
 pub mod limits;
 mod measures;
 pub mod params;
+mod slots;
 pub mod special;
 pub mod tree;
 

@@ -16,7 +16,7 @@ impl NodeList {
             return 0;
         }
         let mut deepest: u64 = 0;
-        for node in &self.nodes {
+        for node in self.as_slice() {
             if let Node::Box(_, inner) = node {
                 deepest = deepest.max(inner.list.depth().saturating_add(1));
             }
@@ -29,11 +29,11 @@ impl NodeList {
     pub fn count(&self) -> u64
         ensures { result ≡ min (items_count self.now) u64.MAX }
     {
-        let mut count = self.nodes.len() as u64;
+        let mut count = self.len() as u64;
         if self.plain {
             return count;
         }
-        for node in &self.nodes {
+        for node in self.as_slice() {
             if let Node::Box(_, inner) = node {
                 count = count.saturating_add(inner.list.count());
             }
@@ -50,7 +50,7 @@ impl NodeList {
             return 0;
         }
         let mut size: u64 = 0;
-        for node in &self.nodes {
+        for node in self.as_slice() {
             match node {
                 Node::Box(_, inner) => size = size.saturating_add(inner.list.text_size()),
                 Node::Special(text) => size = size.saturating_add(text.as_bytes().len() as u64),

@@ -3,12 +3,14 @@
 //! In contracts the value of a list is the tree of its items, without pointers and capacities. So two lists, nodes or boxes are equal in a clause
 //! exactly when they are the same tree. `nodes_of` gives the nodes of a list in order.
 
-ghost use Rattle.std.specs.Prelude.{◌≡◌, ◌==◌, ◌<◌, ◌≤◌, ◌+◌, true, [], ◌∷◌, ◌++◌, length, take, OnOk, OnErr, IfOk, IfErr};
+ghost use Rattle.std.specs.Prelude.{◌≡◌, ◌==◌, ◌≢◌, ◌<◌, ◌≤◌, ◌+◌, true, [], ◌∷◌, ◌++◌, length, take, drop, OnOk, OnErr, IfOk, IfErr};
 ghost use Rattle.std.specs.List.{list_any};
+ghost use Rattle.std.specs.Option.{option_to_list};
 ghost use Rattle.node_core.specs.Classes.{has_content};
 ghost use Rattle.node_core.specs.Items.{Items, none};
 ghost use Rattle.node_core.specs.Nodes.{max_nodes, IsPlain, items_of, nodes_of, last_box, without_last_box};
 
+use crate::slots::{drop_free_slots, replace_nodes, take_nodes};
 use crate::special::SpecialText;
 use scaled_core::{Dimen, Ratio};
 use std::alloc::{AllocError, AllocFailed, Global};
@@ -193,7 +195,10 @@ impl Deref for HeapBox {
 #[cycle(tree)]
 #[derive(Debug, Drop)]
 pub struct NodeList {
+    /// Free slots, and then the nodes of the list. So nodes can leave at the front, and the nodes after them do not move.
     pub(crate) nodes: Vec<Node>,
+    /// The number of free slots. A free slot holds a penalty, which owns nothing.
+    pub(crate) first: u32,
     /// Whether it is known that no node is a box or a special: then no measure needs a walk.
     pub(crate) plain: bool,
 }
@@ -207,20 +212,22 @@ impl Model for NodeList {
     ghost coded = { coded_items };
 
     ghost use Rattle.node_core.specs.Nodes.{items_of};
+    ghost use Rattle.std.specs.Prelude.{drop};
 
-    ghost view = { λ list. items_of list.nodes.items };
+    ghost view = { λ list. items_of (drop list.first list.nodes.items) };
 
-    ghost use Rattle.std.specs.Prelude.{◌≡◌, ◌≤◌, true, length};
+    ghost use Rattle.std.specs.Prelude.{◌≡◌, ◌≤◌, true, length, take};
     ghost use Rattle.node_core.specs.Nodes.{max_nodes, IsPlain};
     ghost use Rattle.node_core.specs.Private.Nodes.{list_size};
 
-    ghost invariant = { λ list. (length list.nodes.items ≤ max_nodes) × (list.plain ≡ true → IsPlain list.nodes.items) };
+    ghost invariant = { λ list. (length list.nodes.items ≤ max_nodes) × (list.first ≤ length list.nodes.items)
+        × IsPlain (take list.first list.nodes.items) × (list.plain ≡ true → IsPlain (drop list.first list.nodes.items)) };
 
     ghost size = { list_size };
 
-    ghost use Rattle.node_core.specs.Private.Falls.{most_le-list_size};
+    ghost use Rattle.node_core.specs.Private.Falls.{slots_le-list_size};
 
-    ghost size_decreases = { λ list h. most_le-list_size list.nodes.items };
+    ghost size_decreases = { λ list h. slots_le-list_size list.first list.nodes.items h.2 };
 }
 
 impl NodeList {
@@ -230,6 +237,7 @@ impl NodeList {
     {
         NodeList {
             nodes: Vec::new(alloc),
+            first: 0,
             plain: false,
         }
     }
@@ -243,7 +251,11 @@ impl NodeList {
     {
         // An open list is put together again after each text: a look at each node would then cost too much.
         let plain = false;
-        NodeList { nodes, plain }
+        NodeList {
+            nodes,
+            first: 0,
+            plain,
+        }
     }
 
     /// The list of these nodes, at most `MAX_NODES`. `is_plain` says that it is known that none of them is a box or a special: then the measures of
@@ -257,6 +269,7 @@ impl NodeList {
     {
         NodeList {
             nodes,
+            first: 0,
             plain: is_plain,
         }
     }
@@ -266,17 +279,23 @@ impl NodeList {
     pub fn into_vec(self) -> Vec<Node>
         ensures { result.items ≡ nodes_of self }
     {
-        let NodeList { nodes, .. } = self;
+        let NodeList {
+            mut nodes,
+            mut first,
+            ..
+        } = self;
+        drop_free_slots(&mut nodes, &mut first);
         nodes
     }
 
     /// The nodes of the list.
+    #[inline]
     #[tactic(auto, using(crate::proofs::NodeLemmas::nodes))]
     pub fn as_slice(&self) -> &[Node]
         ensures nodes { result.now ≡ nodes_of self.now }
         ensures list_bounded { length (nodes_of self.now) ≤ max_nodes }
     {
-        &self.nodes
+        &self.nodes[self.first as usize..]
     }
 
     /// The number of nodes, without those in inner boxes.
@@ -285,7 +304,7 @@ impl NodeList {
         ensures count { result ≡ length (nodes_of self.now) }
         ensures list_bounded { length (nodes_of self.now) ≤ max_nodes }
     {
-        self.nodes.len()
+        self.nodes.len() - self.first as usize
     }
 
     /// Whether the list is empty.
@@ -293,11 +312,12 @@ impl NodeList {
     pub fn is_empty(&self) -> bool
         ensures { result ≡ (length (nodes_of self.now) == 0) }
     {
-        self.nodes.is_empty()
+        self.len() == 0
     }
 
     /// Appends a node to a list of fewer than `MAX_NODES` nodes. If memory is refused, the error returns the node, and the list is as it was before
     /// the call.
+    #[inline]
     #[tactic(auto, using(crate::proofs::NodeLemmas::nodes))]
     pub fn push(&mut self, node: Node) -> Result<(), AllocFailed<Node>>
         requires list_bounded { length (nodes_of self.old) < max_nodes }
@@ -307,6 +327,7 @@ impl NodeList {
         ensures node_returned { IfErr result (λ failed. failed.value ≡ node) }
     {
         self.plain = false;
+        drop_free_slots(&mut self.nodes, &mut self.first);
         self.nodes.push(node)
     }
 
@@ -320,6 +341,7 @@ impl NodeList {
         ensures box_returned { IfErr result (λ back. back ≡ box_node) }
     {
         self.plain = false;
+        drop_free_slots(&mut self.nodes, &mut self.first);
         push_box(&mut self.nodes, shift, box_node)
     }
 
@@ -334,6 +356,8 @@ impl NodeList {
         ensures list_returned { OnErr result (other.new ≡ other.old) }
     {
         self.plain = false;
+        drop_free_slots(&mut self.nodes, &mut self.first);
+        drop_free_slots(&mut other.nodes, &mut other.first);
         self.nodes.append(&mut other.nodes)
     }
 
@@ -343,6 +367,7 @@ impl NodeList {
         ensures { self.new ≡ items_of (take count (nodes_of self.old)) }
     {
         self.plain = false;
+        drop_free_slots(&mut self.nodes, &mut self.first);
         self.nodes.truncate(count);
     }
 
@@ -354,6 +379,7 @@ impl NodeList {
         ensures nodes { nodes_of self.new ≡ without_last_box (last_box (nodes_of self.old)) (nodes_of self.old) }
     {
         self.plain = false;
+        drop_free_slots(&mut self.nodes, &mut self.first);
         match self.nodes.last() {
             Some(Node::Box(..)) => match self.nodes.pop() {
                 Some(Node::Box(_, boxed)) => Some(boxed.into_inner()),
@@ -361,6 +387,37 @@ impl NodeList {
             },
             _ => None,
         }
+    }
+
+    /// Moves the first `count` nodes out of the list. The nodes after them do not move. If memory is refused, the list is as it was before the call.
+    /// Without nodes to move it takes no memory.
+    #[tactic(auto, using(crate::proofs::NodeLemmas::nodes))]
+    pub fn take_front(&mut self, count: usize) -> Result<Vec<Node>, AllocError>
+        requires count_bounded { count ≤ length (nodes_of self.old) }
+        ensures front { IfOk result (λ front. front.items ≡ take count (nodes_of self.old)) }
+        ensures ok { OnOk result (self.new ≡ items_of (drop count (nodes_of self.old))) }
+        ensures nodes { OnOk result (nodes_of self.new ≡ drop count (nodes_of self.old)) }
+        ensures err { OnErr result (self.new ≡ self.old) }
+        ensures growth { OnErr result (count ≢ 0) }
+    {
+        let first = self.first as usize;
+        let end = first + count;
+        let front = take_nodes(&mut self.nodes, first, end)?;
+        self.first = end as u32;
+        Ok(front)
+    }
+
+    /// Replaces the first `count` nodes, at least one, by this node, or drops them. The nodes after them do not move. Does not allocate.
+    #[tactic(auto, using(crate::proofs::NodeLemmas::nodes))]
+    pub fn replace_front(&mut self, count: usize, node: Option<Node>)
+        requires count_positive { 0 < count }
+        requires count_bounded { count ≤ length (nodes_of self.old) }
+        ensures items { self.new ≡ items_of (option_to_list node ++ drop count (nodes_of self.old)) }
+        ensures nodes { nodes_of self.new ≡ option_to_list node ++ drop count (nodes_of self.old) }
+    {
+        self.plain = false;
+        let first = self.first as usize;
+        self.first = replace_nodes(&mut self.nodes, first, first + count, node) as u32;
     }
 }
 
