@@ -43,13 +43,14 @@ box_name_written : (word : List ℕ) (name : Name) → box_name word ≡ Some na
 unfolding box_name
 box_name_written word name h =
     one_name _ word (codes "hbox") (names.Open forms.Hbox) _ name refl refl
+    (one_name _ word (codes "rule") names.Rule _ name refl refl
     (one_name _ word (codes "vbox") (names.Open forms.Vbox) _ name refl refl
     (one_name _ word (codes "vtop") (names.Open forms.Vtop) _ name refl refl
     (one_name _ word (codes "par") names.Paragraph _ name refl refl
     (one_name _ word (codes "end") names.End _ name refl refl
     (one_name _ word (codes "measure") names.Measure _ name refl refl
     (one_name _ word (codes "void") names.Void _ name refl refl
-    (one_name _ word (codes "ship") names.Ship None name refl refl (λ e. absurd (cc))))))))) h
+    (one_name _ word (codes "ship") names.Ship None name refl refl (λ e. absurd (cc)))))))))) h
 
 register_name_written : (word : List ℕ) (name : Name) → register_name word ≡ Some name → word ≡ name_text name
 unfolding register_name
@@ -69,12 +70,11 @@ item_name_written word name h =
     one_name _ word (codes "font") names.Font _ name refl refl
     (one_name _ word (codes "use") names.Use _ name refl refl
     (one_name _ word (codes "char") names.Character _ name refl refl
-    (one_name _ word (codes "rule") names.Rule _ name refl refl
     (one_name _ word (codes "kern") names.Kern _ name refl refl
     (one_name _ word (codes "glue") names.Glue _ name refl refl
     (one_name _ word (codes "penalty") names.Penalty _ name refl refl
     (one_name _ word (codes "set") names.Set _ name refl refl
-    (one_name _ word (codes "count") names.Count None name refl refl (λ e. absurd (cc)))))))))) h
+    (one_name _ word (codes "count") names.Count None name refl refl (λ e. absurd (cc))))))))) h
 
 name_by_rest : (word : List ℕ) (name : Name) (o : Option Name) → register_name word ≡ o → name_or o (item_name word) ≡ Some name → word ≡ name_text name
 name_by_rest word name None e h = item_name_written word name h

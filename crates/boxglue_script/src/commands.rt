@@ -91,6 +91,7 @@ impl<'a> Fields<'a> {
 
     /// The opening of a list, with nothing after its size, or with `into` and a register.
     #[tactic(auto, unfolding(crate::specs::Private::Reading::opening_into))]
+    #[inline(never)]
     fn opening_into(&mut self, form: BoxForm, target: Target) -> Result<Command, Cause>
         ensures { result ≡ opening_into form target (fields_of self.old.rest.now) }
     {
@@ -103,6 +104,7 @@ impl<'a> Fields<'a> {
 
     /// The opening of a list, with a register as the last field.
     #[tactic(auto, unfolding(crate::specs::Private::Reading::opening_with_register))]
+    #[inline(always)]
     fn opening_with_register(&mut self, form: BoxForm, target: Target) -> Result<Command, Cause>
         ensures { result ≡ opening_with_register form target (fields_of self.old.rest.now) }
     {

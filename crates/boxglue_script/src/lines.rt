@@ -12,6 +12,7 @@ use memchr::memchr;
 /// The first line of a text that is not empty, without its end, and the text after it. A line ends with a line feed, which the last one need not
 /// have. What follows begins right after that end.
 #[tactic(auto, using(crate::proofs::LineLemmas::splitting))]
+#[inline(always)]
 pub fn first_line(text: &[u8]) -> (&[u8], &[u8])
     requires { 0 < length text.now }
     ensures lines { lines text.now ≡ result.0.now ∷ lines result.1.now }
@@ -27,6 +28,7 @@ pub fn first_line(text: &[u8]) -> (&[u8], &[u8])
 }
 
 /// The number of bytes before the first line feed.
+#[inline(always)]
 fn line_size(text: &[u8]) -> usize
     ensures size { result ≡ prefix_len in_line text.now }
     ensures size_bounded { result ≤ length text.now }

@@ -51,13 +51,17 @@ impl Name {
     }
 }
 
-/// The names of commands on lists and whole boxes.
+/// The names of commands on lists and whole boxes, and that of rules. Most lines of long scripts are such commands, so these names are compared
+/// first.
 #[tactic(auto, unfolding(crate::specs::Private::Names::box_name))]
 fn box_name(word: &[u8]) -> Option<Name>
     ensures { result ≡ box_name word.now }
 {
     if word == b"hbox".as_slice() {
         return Some(Name::Open(BoxForm::Hbox));
+    }
+    if word == b"rule".as_slice() {
+        return Some(Name::Rule);
     }
     if word == b"vbox".as_slice() {
         return Some(Name::Open(BoxForm::Vbox));
@@ -115,7 +119,7 @@ fn register_name(word: &[u8]) -> Option<Name>
     None
 }
 
-/// The names of commands on fonts, items, parameters and counts.
+/// The names of commands on fonts, other items, parameters and counts.
 #[tactic(auto, unfolding(crate::specs::Private::Names::item_name))]
 fn item_name(word: &[u8]) -> Option<Name>
     ensures { result ≡ item_name word.now }
@@ -128,9 +132,6 @@ fn item_name(word: &[u8]) -> Option<Name>
     }
     if word == b"char".as_slice() {
         return Some(Name::Character);
-    }
-    if word == b"rule".as_slice() {
-        return Some(Name::Rule);
     }
     if word == b"kern".as_slice() {
         return Some(Name::Kern);

@@ -8,10 +8,11 @@ use Rattle.boxglue_script.specs.declared.name.Name.{Name}
 use Rattle.boxglue_script.specs.declared.name.Name.TheVariants.{Font, Use, Open, Paragraph, End, Character, Rule, Kern, Glue, Penalty, Append, Unbox}
 use Rattle.boxglue_script.specs.declared.name.Name.TheVariants.{LastBox, Split, Measure, Void, Set, Count, Ship}
 
--- The names of commands on lists and whole boxes.
+-- The names of commands on lists and whole boxes, and that of rules.
 unfoldable pub box_name : List ℕ → Option Name
 box_name word =
     if bytes_eq word (codes "hbox") then Some (Open Hbox)
+    else (if bytes_eq word (codes "rule") then Some Rule
     else (if bytes_eq word (codes "vbox") then Some (Open Vbox)
     else (if bytes_eq word (codes "vtop") then Some (Open Vtop)
     else (if bytes_eq word (codes "par") then Some Paragraph
@@ -19,7 +20,7 @@ box_name word =
     else (if bytes_eq word (codes "measure") then Some Measure
     else (if bytes_eq word (codes "void") then Some Void
     else (if bytes_eq word (codes "ship") then Some Ship
-    else None)))))))
+    else None))))))))
 
 -- The names of commands that take the box of a register into a list, take the last box out of a list, or split a box.
 unfoldable pub register_name : List ℕ → Option Name
@@ -34,19 +35,18 @@ register_name word =
     else (if bytes_eq word (codes "vsplit") then Some Split
     else None)))))))
 
--- The names of commands on fonts, items, parameters and counts.
+-- The names of commands on fonts, other items, parameters and counts.
 unfoldable pub item_name : List ℕ → Option Name
 item_name word =
     if bytes_eq word (codes "font") then Some Font
     else (if bytes_eq word (codes "use") then Some Use
     else (if bytes_eq word (codes "char") then Some Character
-    else (if bytes_eq word (codes "rule") then Some Rule
     else (if bytes_eq word (codes "kern") then Some Kern
     else (if bytes_eq word (codes "glue") then Some Glue
     else (if bytes_eq word (codes "penalty") then Some Penalty
     else (if bytes_eq word (codes "set") then Some Set
     else (if bytes_eq word (codes "count") then Some Count
-    else None))))))))
+    else None)))))))
 
 -- The first of two optional names.
 abbrev pub name_or : Option Name → Option Name → Option Name
