@@ -91,6 +91,9 @@ impl JobState {
     }
 
     /// Runs a command that ships nothing. `ship` needs the writer of the file: it asks for `box_in`, and calls `empty` once the page was sent.
+    ///
+    /// Each arm returns for itself, and moves the reply out of its call: where all arms shared one result, each `Done` was copied with as many bytes
+    /// as the longest reply has.
     pub fn obey(&mut self, command: &Command) -> Result<Reply, AllocError>
         requires { IsShip command.now → ⊥ }
         ensures reply { IfOk result (λ reply. reply ≡ reply_to (before_shipping self.old) command.now) }
@@ -101,26 +104,26 @@ impl JobState {
         ensures err { OnErr result (self.new ≡ self.old) }
     {
         match command {
-            Command::LoadFont(load) => self.load_font(load),
-            Command::UseFont(slot) => Ok(self.use_font(*slot)),
-            Command::Open(opening) => self.open_list(*opening),
-            Command::Paragraph => self.open_paragraph(),
-            Command::End => self.end(),
-            Command::Text(text) => self.append_text(text),
-            Command::Character(code) => self.append_character(*code),
-            Command::Rule(rule) => self.append_rule(*rule),
-            Command::Kern(width) => self.append_item(Node::Kern(*width)),
-            Command::Glue(glue) => self.append_item(Node::Glue(*glue)),
-            Command::Penalty(number) => self.append_item(Node::Penalty(number.get())),
-            Command::Append(taken) => self.append_register_box(taken),
-            Command::Unbox(taken) => self.unbox(taken),
-            Command::LastBox(register) => Ok(self.last_box(*register)),
-            Command::Split(splitting) => self.split(splitting),
-            Command::Measure(register) => Ok(self.measure(*register)),
-            Command::Void(register) => Ok(self.void(*register)),
-            Command::Set(parameter) => Ok(self.set(*parameter)),
-            Command::Count(counting) => Ok(self.count(*counting)),
-            Command::Special(text) => self.append_special(text),
+            Command::LoadFont(load) => return Ok(self.load_font(load)?),
+            Command::UseFont(slot) => return Ok(self.use_font(*slot)),
+            Command::Open(opening) => return Ok(self.open_list(*opening)?),
+            Command::Paragraph => return Ok(self.open_paragraph()?),
+            Command::End => return Ok(self.end()?),
+            Command::Text(text) => return Ok(self.append_text(text)?),
+            Command::Character(code) => return Ok(self.append_character(*code)?),
+            Command::Rule(rule) => return Ok(self.append_rule(*rule)?),
+            Command::Kern(width) => return Ok(self.append_item(Node::Kern(*width))?),
+            Command::Glue(glue) => return Ok(self.append_item(Node::Glue(*glue))?),
+            Command::Penalty(number) => return Ok(self.append_item(Node::Penalty(number.get()))?),
+            Command::Append(taken) => return Ok(self.append_register_box(taken)?),
+            Command::Unbox(taken) => return Ok(self.unbox(taken)?),
+            Command::LastBox(register) => return Ok(self.last_box(*register)),
+            Command::Split(splitting) => return Ok(self.split(splitting)?),
+            Command::Measure(register) => return Ok(self.measure(*register)),
+            Command::Void(register) => return Ok(self.void(*register)),
+            Command::Set(parameter) => return Ok(self.set(*parameter)),
+            Command::Count(counting) => return Ok(self.count(*counting)),
+            Command::Special(text) => return Ok(self.append_special(text)?),
             Command::Ship(_) => unreachable!(),
         }
     }
@@ -141,6 +144,9 @@ impl JobState {
 
     /// Reads a font file into a slot. A file is read only here, so one that no command names is never looked at. Of several files with one name the
     /// first counts. A slot has one font in the whole job, so the slot of a glyph decides its sizes.
+    ///
+    /// Inside `obey` the arrays of a new font would be part of the stack of each command.
+    #[inline(never)]
     fn load_font(&mut self, load: &FontLoad) -> Result<Reply, AllocError>
         ensures reply { IfOk result (λ reply. reply ≡ reply_to (before_shipping self.old) (commands.LoadFont load.now)) }
         ensures state { OnOk result (before_shipping self.new ≡ state_after (before_shipping self.old) (commands.LoadFont load.now)) }
