@@ -9,3 +9,4 @@ pub mod SessionScripts
 pub mod RowLaws
 pub mod WritingLemmas
 pub mod BlockRuns
+pub mod NumberedLines

@@ -9,6 +9,7 @@ mod dialog;
 mod hexadecimal;
 pub mod laws;
 mod memory_run;
+mod numbered_line;
 mod outcome;
 mod refusals;
 mod run;

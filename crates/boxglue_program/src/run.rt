@@ -18,9 +18,11 @@ ghost use Rattle.boxglue_script.specs.Blocks.{lines_of};
 ghost use Rattle.boxglue_program.specs.Outcomes.{replies_outcome, run_outcome, worse_outcome};
 ghost use Rattle.boxglue_program.specs.Runs.{commands_of, line_numbers, fault_view, IsAnswered, IsUnanswered, IsLeft, IsAnswerOfRest};
 ghost use Rattle.boxglue_program.specs.Runs.{IsAnsweredOverRest, IsLeftOverRest};
+ghost use Rattle.boxglue_program.specs.Private.NumberedLines.{HoldsTens};
 
+use crate::numbered_line::NumberedLine;
 use crate::outcome::Outcome;
-use crate::texts::{push_answer_line, push_done, push_end_line, script_refusal_text};
+use crate::texts::{push_answer_line, push_end_line, script_refusal_text};
 use crate::writing::{UnwrittenText, write_text};
 use boxglue_script::{Line, LineBlocks, ScriptFault, read_blocks};
 use job_core::{Answer, Device, FontFile, Job, Refusal, Reply, Rest, Summary};
@@ -283,10 +285,11 @@ pub fn run_lines<D: Device>(job: &mut Job<D>, lines: &[Line], answers: &mut Vec<
     let before = answers.len();
     let mut outcome = Outcome::Accepted;
     let mut kept = true;
+    let mut numbered = NumberedLine::new();
     for line in lines {
         let reply = job.step(&line.command);
         outcome = outcome.worse(Outcome::of(&reply));
-        kept = push_next_answer(kept, line.number, &reply, answers);
+        kept = push_next_answer(kept, &mut numbered, line.number, &reply, answers);
     }
     if !kept {
         answers.truncate(before);
@@ -296,10 +299,19 @@ pub fn run_lines<D: Device>(job: &mut Job<D>, lines: &[Line], answers: &mut Vec<
 
 /// Appends an answer if those before it are there. Returns whether it is there too.
 ///
-/// Most answers are `ok`, and are appended as one piece. For another one the text is moved here while it grows: as a value of this call its length is
-/// not written back after each of the many short pieces.
+/// Most answers are `ok`, and are appended as one piece. Any other reply is handed on as a value: for one that is handed on by reference, the caller
+/// would write each reply into memory first.
+#[inline(always)]
 #[tactic(auto, unfolding(crate::specs::Texts::answer_line, crate::specs::Texts::answer_text))]
-fn push_next_answer(kept: bool, number: usize, reply: &Reply, answers: &mut Vec<u8>) -> bool
+fn push_next_answer(
+    kept: bool,
+    line: &mut NumberedLine,
+    number: usize,
+    reply: &Reply,
+    answers: &mut Vec<u8>,
+) -> bool
+    requires { HoldsTens line.old }
+    ensures holds { HoldsTens line.new }
     ensures ok { result ≡ true → (kept ≡ true) × (answers.new.items ≡ answers.old.items ++ answer_line number reply.now) }
     ensures cut { result ≡ false → answers.new.items ≡ answers.old.items }
     ensures space { kept ≡ true → vec_len answers.old + 512 ≤ vec_capacity answers.old → result ≡ true }
@@ -310,11 +322,31 @@ fn push_next_answer(kept: bool, number: usize, reply: &Reply, answers: &mut Vec<
         return false;
     }
     if let Ok(Answer::Done) = reply {
-        return push_done(number as u64, answers).is_ok();
+        return line.push_done(number as u64, answers).is_ok();
     }
+    push_other_answer(line, number, *reply, answers)
+}
+
+/// Appends an answer with more than `ok`, and returns whether it is there. The text is moved here while it grows: as a value of this call its length
+/// is not written back after each of the many short pieces.
+#[inline(never)]
+fn push_other_answer(
+    line: &mut NumberedLine,
+    number: usize,
+    reply: Reply,
+    answers: &mut Vec<u8>,
+) -> bool
+    requires { HoldsTens line.old }
+    ensures holds { HoldsTens line.new }
+    ensures ok { result ≡ true → answers.new.items ≡ answers.old.items ++ answer_line number reply }
+    ensures cut { result ≡ false → answers.new.items ≡ answers.old.items }
+    ensures space { vec_len answers.old + 512 ≤ vec_capacity answers.old → result ≡ true }
+    ensures grown { vec_capacity answers.old ≤ vec_capacity answers.new }
+    ensures short { vec_len answers.new ≤ vec_len answers.old + 512 }
+{
     let alloc = *answers.allocator();
     let mut text = replace(answers, Vec::new(alloc));
-    let pushed = push_answer_line(number, reply, &mut text).is_ok();
+    let pushed = push_answer_line(line, number, &reply, &mut text).is_ok();
     *answers = text;
     pushed
 }

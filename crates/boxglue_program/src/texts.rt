@@ -5,10 +5,12 @@ ghost use Rattle.std.specs.Fmt.{signed_decimal};
 ghost use Rattle.scaled_core.specs.Spaces.{TakesSpace};
 ghost use Rattle.boxglue_program.specs.Texts.{cause_name, kind_name, points_text, sizes_text, rest_text, lines_text, costs_text, answer_text};
 ghost use Rattle.boxglue_program.specs.Texts.{reply_text, answer_line, summary_text, end_line, line_feed, script_refusal_text};
+ghost use Rattle.boxglue_program.specs.Private.NumberedLines.{HoldsTens};
 
+use crate::numbered_line::NumberedLine;
 use crate::refusals::{push_number, push_refusal, push_text};
 use boxglue_script::Cause;
-use itoa::{Buffer, write_digits};
+use itoa::Buffer;
 use job_core::{Answer, Refusal, Reply, Sizes, Summary};
 use node_core::Kind;
 use scaled_core::{Dimen, print_dimen};
@@ -16,9 +18,6 @@ use std::alloc::{AllocError, Global};
 
 /// Space for one line of answers. The longest is that of a split: two numbers, six dimensions, and the words between them.
 pub(crate) const ANSWER_SIZE: usize = 512;
-
-/// How many digits the number of a line has at most.
-const DIGITS: usize = 20;
 
 /// The name of the cause that makes a script bad.
 fn cause_name(cause: Cause) -> &'static str
@@ -238,41 +237,22 @@ fn push_reply(reply: &Reply, out: &mut Vec<u8>) -> Result<(), AllocError>
     }
 }
 
-/// Appends the line `N: ok` as one piece, with the digits before a text that is there.
-pub(crate) fn push_done(number: u64, out: &mut Vec<u8>) -> Result<(), AllocError>
-    ensures ok { OnOk result (out.new.items ≡ out.old.items ++ (decimal number ++ (codes ": ok" ++ line_feed))) }
-    ensures err { OnErr result (out.new.items ≡ out.old.items) }
-    ensures space { TakesSpace 25 out.old out.new result }
-{
-    let mut line = *b"00000000000000000000: ok\n";
-    let start = write_digits(number, &mut line, DIGITS);
-    out.extend_from_slice(&line[start..])
-}
-
-/// Appends the number of a line with what follows it, also as one piece.
-fn push_line_number(number: u64, out: &mut Vec<u8>) -> Result<(), AllocError>
-    ensures ok { OnOk result (out.new.items ≡ out.old.items ++ (decimal number ++ codes ": ")) }
-    ensures err { OnErr result (out.new.items ≡ out.old.items) }
-    ensures space { TakesSpace 22 out.old out.new result }
-{
-    let mut text = *b"00000000000000000000: ";
-    let start = write_digits(number, &mut text, DIGITS);
-    out.extend_from_slice(&text[start..])
-}
-
 /// Appends the line that answers the line of a script with this number. If memory is refused, nothing was appended, as space is taken first.
 #[tactic(auto, unfolding(crate::specs::Texts::answer_line))]
 pub(crate) fn push_answer_line(
+    line: &mut NumberedLine,
     number: usize,
     reply: &Reply,
     out: &mut Vec<u8>,
 ) -> Result<(), AllocError>
+    requires { HoldsTens line.old }
+    ensures holds { HoldsTens line.new }
     ensures ok { OnOk result (out.new.items ≡ out.old.items ++ answer_line number reply.now) }
     ensures cut { OnErr result (out.new.items ≡ out.old.items) }
     ensures space { TakesSpace 512 out.old out.new result }
 {
     out.reserve(ANSWER_SIZE)?;
-    push_line_number(number as u64, out)?;
+    line.push_number(number as u64, out)?;
     push_reply(reply, out)?;
     push_text("\n", out)
 }

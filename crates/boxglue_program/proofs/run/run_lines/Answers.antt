@@ -54,6 +54,7 @@ loop-line-preserved g c =
       idle = λ over.
           let same = c.loop-line.invariant.idle over in
           c.step-reply.ensures.idle (ap (λ (job : JobView). job.state.over) same ∙ over) ∙ same;
+      numbered = push.ensures.holds;
       goes_on = goes_further _ _ _ c.loop-line.invariant.goes_on c.step-reply.ensures.goes_on;
     }
 

@@ -6,6 +6,7 @@ use Rattle.job_core.specs.Jobs.{RunsTo, writing_of}
 use Rattle.boxglue_program.specs.Outcomes.{replies_outcome}
 use Rattle.boxglue_program.specs.Runs.{commands_of, line_numbers}
 use Rattle.boxglue_program.specs.Texts.{answer_lines}
+use Rattle.boxglue_program.specs.Private.NumberedLines.{HoldsTens}
 use Rattle.boxglue_program.proofs.run.run_lines.Given as goal
 
 abbrev pub invariant-loop-line : goal.invariant-loop-line
@@ -17,5 +18,6 @@ invariant-loop-line g l = record {
   grown : vec_capacity l.initial.answers ≤ vec_capacity l.answers;
   space : vec_len l.initial.answers + 512 * length l.lines ≤ vec_capacity l.initial.answers → l.kept ≡ true;
   idle : l.initial.job.state.over ≡ true → l.job ≡ l.initial.job;
+  numbered : HoldsTens l.numbered;
   goes_on : GoesOn (writing_of l.initial.job) (writing_of l.job);
 }
