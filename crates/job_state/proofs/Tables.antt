@@ -1,7 +1,7 @@
 -- Tables of which only the first places are kept, since those above hold nothing.
 use Rattle.std.proofs.Common.{◌≡◌, ◌∙◌, ℕ, zero, suc, ◌+◌, ◌-◌, ◌<◌, ◌≤◌, List, [], ◌∷◌, ◌++◌, length, set, replicate, Option, None, refl, sym, ap, append_assoc, length-append, arith}
 use Rattle.std.specs.Prelude.{slice_get, unwrap_or, slice_index_or}
-use Rattle.std.proofs.lemmas.List.{set-append_left, set-append_right, length-set, length-replicate}
+use Rattle.std.proofs.lemmas.List.{set-append_left, set-append_right, length-set, length-replicate, replicate_more}
 use Rattle.std.proofs.lemmas.Option.{slice_get_past, slice_get-get_or}
 use Rattle.job_state.specs.Private.Registers.{filled_up}
 
@@ -98,3 +98,18 @@ module _ {A : Type 0} where
       ∙ (sym (ap (λ (zs : List (Option A)). xs ++ zs) (set_among (n - length xs) (i - length xs) (n - suc i) x parts))
       ∙ (sym (set-append_right xs (replicate (n - length xs) None) (length xs) i x refl above)
       ∙ set_there (filled_up n xs) table i r x y is number same))))
+
+  -- A table has at least its places.
+  pub filled_long : (n : ℕ) (xs : List (Option A)) → n ≤ length (filled_up n xs)
+  unfolding filled_up
+  filled_long n xs = omega (arith, length-append xs (replicate (n - length xs) None), length-replicate {A = Option A} (n - length xs) None)
+
+  -- A list with places above it, and one place more.
+  pub place_more : (xs ys zs : List (Option A)) (i : ℕ) → length xs ≤ i → ys ≡ xs ++ replicate (i - length xs) None → zs ≡ ys ++ (None ∷ [])
+      → zs ≡ xs ++ replicate (i + 1 - length xs) None
+  place_more xs ys zs i below before after =
+      let more : i - length xs + 1 ≡ i + 1 - length xs = omega (arith, below) in
+      after ∙ (ap (λ (ws : List (Option A)). ws ++ (None ∷ [])) before
+      ∙ (append_assoc xs (replicate {A = Option A} (i - length xs) None) (None ∷ [])
+      ∙ (ap (λ (ws : List (Option A)). xs ++ ws) (replicate_more {X = Option A} (i - length xs) None)
+      ∙ ap (λ (j : ℕ). xs ++ replicate {A = Option A} j None) more)))

@@ -5,3 +5,4 @@
 pub mod job_state;
 pub mod registers;
 mod splits;
+mod table;

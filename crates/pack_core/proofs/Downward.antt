@@ -10,7 +10,7 @@ use Rattle.pack_core.specs.declared.orders.OrderAmounts.{OrderAmounts}
 use Rattle.pack_core.specs.Items.{downward, breadth, stretch_in, shrink_in}
 use Rattle.pack_core.specs.Orders.{plus}
 use Rattle.pack_core.specs.ListTotals.{pending_after}
-use Rattle.pack_core.specs.Private.Measures.{AreMeasuresOf, HasGoneDown}
+use Rattle.pack_core.specs.Tails.{AreMeasuresOf, HasGoneDown}
 use Rattle.pack_core.proofs.Sums.{total-append, greatest-append, greatest_positive, pending-append}
 use Rattle.pack_core.proofs.Passing.{plus-one, within-more}
 

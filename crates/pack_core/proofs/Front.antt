@@ -1,6 +1,6 @@
 -- Penalties and specials at the front of a vertical list change only the items of its vbox.
 use Rattle.std.proofs.Common.{◌≡◌, ◌∙◌, ℕ, ◌&&◌, List, [], ◌∷◌, ◌++◌, Bool, true, false, refl, sym, ap, arith}
-use Rattle.std.specs.Prelude.{ℤ, pos, negsuc, zero, suc, ◌-ℤ◌, if◌then◌else◌}
+use Rattle.std.specs.Prelude.{ℤ, pos, negsuc, zero, suc, if◌then◌else◌}
 use Rattle.std.specs.List.{list_all}
 use Rattle.std.proofs.Math.Path.{fun_ext}
 use Rattle.std.proofs.lemmas.Int.{ints, clamps}

@@ -3,6 +3,7 @@ pub mod Sums
 pub mod Passing
 pub mod Measured
 pub mod Downward
+pub mod Composed
 pub mod Steps
 pub mod Walks
 pub mod Front

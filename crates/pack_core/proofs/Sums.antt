@@ -85,3 +85,14 @@ pending-none ((nodes.Kern width) ∷ xs) all = absurd (cc)
 pending-none ((nodes.Glue g) ∷ xs) all = absurd (cc)
 pending-none ((nodes.Rule sizes) ∷ xs) all = absurd (cc)
 pending-none ((nodes.Box shift b) ∷ xs) all = absurd (cc)
+
+-- The pending depth of two lists together.
+pub pending-joined : (xs ys : List Node) → pending_depth (xs ++ ys) ≡ (if list_all is_sizeless ys then pending_depth xs else pending_depth ys)
+pending-joined [] ys = here (list_all is_sizeless ys) refl
+  where
+    here : (all : Bool) → list_all is_sizeless ys ≡ all → pending_depth ys ≡ (if list_all is_sizeless ys then pos 0 else pending_depth ys)
+    here true e = rw e (pending-none ys e)
+    here false e = rw e refl
+pending-joined (x ∷ xs) ys =
+    rw (list_all-append is_sizeless xs ys, pending-joined xs ys)
+    (choice (list_all is_sizeless xs) (list_all is_sizeless ys) (last_below x) (pending_depth xs) (pending_depth ys))

@@ -4,6 +4,7 @@ pub mod Totals
 pub mod Glue
 pub mod Orders
 pub mod ListTotals
+pub mod Tails
 pub mod Boxes
 pub mod Places
 pub mod Cursors

@@ -1,12 +1,12 @@
 //! The measures of a vertical list, found in one walk.
 
-ghost use Rattle.std.specs.Prelude.{◌≡◌, ◌+◌, ◌+ℤ◌, ◌^◌, ◌++◌, ◌∷◌, [], ℕ, List};
+ghost use Rattle.std.specs.Prelude.{◌≡◌, ◌+◌, ◌+ℤ◌, ◌^◌, ◌++◌, ◌∷◌, [], ℕ, List, length};
 ghost use Rattle.std.specs.Int.{int_max};
 ghost use Rattle.node_core.specs.declared.tree.Node.{Node};
 ghost use Rattle.pack_core.specs.Items.{downward, breadth, stretch_in, shrink_in};
 ghost use Rattle.pack_core.specs.Orders.{plus};
 ghost use Rattle.pack_core.specs.ListTotals.{pending_after};
-ghost use Rattle.pack_core.specs.Private.Measures.{AreMeasuresOf, HasGoneDown};
+ghost use Rattle.pack_core.specs.Tails.{AreMeasuresOf, HasGoneDown};
 
 use crate::orders::{OrderAmounts, no_amounts};
 use crate::sizes::{advance_of, breadth_of};
@@ -91,6 +91,7 @@ impl Down {
         requires { HasGoneDown 1 self }
         ensures value { (before : List Node) → AreMeasuresOf before self → AreMeasuresOf (before ++ nodes.now) result }
         ensures bound { HasGoneDown (2 ^ 64) result }
+        ensures count_bounded { (n : ℕ) → HasGoneDown n self → HasGoneDown (n + length nodes.now) result }
     {
         let mut down = self;
         for node in nodes {

@@ -13,6 +13,7 @@ mod pack;
 mod places;
 mod setting;
 mod sizes;
+mod tail;
 mod totals;
 
 pub use across::Across;
@@ -24,4 +25,5 @@ pub use pack::{
 };
 pub use places::{Cursor, offset};
 pub use sizes::{advance_of, first_height_of, own_size, share_of, shrink_of, stretch_of};
+pub use tail::Tail;
 pub use totals::Totals;

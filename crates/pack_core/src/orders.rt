@@ -47,7 +47,33 @@ fn add_dimen(amount: i128, by: Dimen) -> i128
     amount + i128::from(by.get())
 }
 
+/// The sum of two amounts.
+pub(crate) fn sum_of(amount: i128, other: i128) -> i128
+    requires small { Within (2 ^ 100) amount }
+    requires other_small { Within (2 ^ 100) other }
+    ensures { result ≡ amount +ℤ other }
+{
+    amount + other
+}
+
 impl OrderAmounts {
+    /// The sums of the amounts of each order.
+    pub(crate) fn sum_with(&self, other: &OrderAmounts) -> OrderAmounts
+        requires small { AreWithin (2 ^ 100) self.now }
+        requires other_small { AreWithin (2 ^ 100) other.now }
+        ensures normal { result.normal ≡ self.now.normal +ℤ other.now.normal }
+        ensures fil { result.fil ≡ self.now.fil +ℤ other.now.fil }
+        ensures fill { result.fill ≡ self.now.fill +ℤ other.now.fill }
+        ensures filll { result.filll ≡ self.now.filll +ℤ other.now.filll }
+    {
+        OrderAmounts {
+            normal: self.normal + other.normal,
+            fil: self.fil + other.fil,
+            fill: self.fill + other.fill,
+            filll: self.filll + other.filll,
+        }
+    }
+
     /// Adds a dimension to the amount of one order. The amounts of the other orders stay as they are.
     #[inline(always)]
     pub fn add(&mut self, order: Order, amount: Dimen)

@@ -15,7 +15,7 @@ ghost use Rattle.pack_core.specs.Boxes.{vtop_numbers, vtop_result, some_if, hbox
 ghost use Rattle.pack_core.specs.ListTotals.{IsAcross};
 ghost use Rattle.pack_core.specs.Places.{place_in};
 ghost use Rattle.pack_core.specs.Private.Steps.{vtop_shell, boxed_list};
-ghost use Rattle.pack_core.specs.Private.Measures.{AreMeasuresOf, HasGoneDown};
+ghost use Rattle.pack_core.specs.Tails.{AreMeasuresOf, HasGoneDown};
 
 use crate::across::Across;
 use crate::down::Down;

@@ -24,5 +24,6 @@ pub mod Walks
 pub mod Openings
 pub mod Search
 pub mod Specials
+pub mod Ends
 pub mod Rests
 pub mod Choices

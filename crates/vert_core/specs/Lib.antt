@@ -13,6 +13,7 @@ pub mod TrialBounds
 pub mod Places
 pub mod Costs
 pub mod Split
+pub mod Tails
 pub mod Chosen
 pub mod Laws
 pub mod Private

@@ -26,6 +26,7 @@ mod planning;
 mod rest;
 mod stacking;
 mod sums;
+mod tails;
 mod trials;
 
 pub use append::{UnappendedBox, append_box, append_with_glue};
@@ -36,4 +37,5 @@ pub use interline::{DimensionTooLarge, interline_glue};
 pub use paragraph::ParagraphFault;
 pub use parts::{Split, SplitFault, UnsplitList};
 pub use stacking::{VerticalItems, lines};
+pub use tails::Tails;
 pub use trials::split_place;

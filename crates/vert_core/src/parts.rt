@@ -1,5 +1,6 @@
 //! The parts of a split vertical list, and why a list is not split.
 
+use crate::tails::Tails;
 use node_core::NodeList;
 use pack_core::PackedBox;
 use thiserror::Error;
@@ -11,6 +12,8 @@ pub struct Split {
     pub front: PackedBox,
     /// The items that are left, in a vbox of its natural height, or `None` if nothing is left.
     pub rest: Option<PackedBox>,
+    /// The tails of the rest, if they are known. Its next split then does not look at all its items.
+    pub tails: Option<Tails>,
 }
 
 /// Why a vertical list is not split.
@@ -27,10 +30,11 @@ pub enum SplitFault {
     OutOfMemory,
 }
 
-/// The list was not split. It is returned as it was.
+/// The list was not split. It is returned as it was, with its tails, if they were known.
 #[derive(Debug, Drop, Error)]
 #[error("the list was not split: {fault}")]
 pub struct UnsplitList {
     pub list: NodeList,
+    pub tails: Option<Tails>,
     pub fault: SplitFault,
 }

@@ -1,22 +1,25 @@
 //! The plan of a split, found before any item is moved.
 
-ghost use Rattle.std.specs.Prelude.{◌≡◌, ◌≤◌, ◌<◌, ◌++◌, Some, None, IfOk, IfErr, OnOk, if◌then◌else◌, true, false, is_ok, length, take, drop};
+ghost use Rattle.std.specs.Prelude.{◌≡◌, ◌≤◌, ◌<◌, ◌++◌, ◌∷◌, Some, None, IfOk, IfErr, OnOk, if◌then◌else◌};
+ghost use Rattle.std.specs.Prelude.{true, false, is_ok, is_some, length, take, drop};
 ghost use Rattle.std.specs.List.{list_all, list_any, slice_get};
 ghost use Rattle.std.specs.Option.{IfSome};
 ghost use Rattle.scaled_core.specs.Dimensions.{fits};
 ghost use Rattle.node_core.specs.Nodes.{max_nodes};
 ghost use Rattle.node_core.specs.Classes.{shrinks_infinitely};
-ghost use Rattle.pack_core.specs.Boxes.{vbox_numbers, vbox_shell};
+ghost use Rattle.pack_core.specs.Boxes.{some_if, vbox_numbers, vbox_shell};
 ghost use Rattle.vert_core.specs.Places.{is_some_before_break};
 ghost use Rattle.vert_core.specs.Split.{from_box_or_rule, specials_above, from_first_box, left_of, items_after, top_widths, rest_numbers};
 ghost use Rattle.vert_core.specs.Split.{split_place};
 ghost use Rattle.vert_core.specs.Split.{refusal, top_width, top_glue, no_limit};
+ghost use Rattle.vert_core.specs.Tails.{AreTails, MeasureEnds};
 ghost use Rattle.vert_core.specs.Private.Steps.{glued_items, rest_list, left_items, IsInside, PlanFits};
 
 use crate::parts::SplitFault;
+use crate::tails::{Tails, entries_of, known_end};
 use crate::trials::{is_box_or_rule, precedes_break, split_place};
 use node_core::{Glue, Node, SplitParams};
-use pack_core::{Shell, Target, first_height_of, vbox_below, vbox_shell};
+use pack_core::{Shell, Tail, Target, first_height_of, vbox_below, vbox_shell};
 use scaled_core::Dimen;
 
 /// The plan of a split.
@@ -50,11 +53,27 @@ struct Top {
     shell: Shell,
 }
 
-/// Whether some glue of a list shrinks in an infinite order. The whole list is tested, including the items after the place, so this refusal does not
-/// depend on the height. Splittopskip is not tested, since it is not part of the list.
-fn has_infinite_shrink(nodes: &[Node]) -> bool
+/// Whether the first of these items shrinks in an infinite order.
+fn begins_with_infinite_shrink(nodes: &[Node]) -> bool
+    requires { list_any shrinks_infinitely (drop 1 nodes.now) ≡ false }
     ensures { result ≡ list_any shrinks_infinitely nodes.now }
 {
+    match nodes {
+        [first, ..] => first.shrinks_infinitely(),
+        [] => false,
+    }
+}
+
+/// Whether some glue of a list shrinks in an infinite order. The whole list is tested, including the items after the place, so this refusal does not
+/// depend on the height. Splittopskip is not tested, since it is not part of the list; it is then the first item of the rest. If the tails of a list
+/// are known, its other items were tested before.
+fn has_infinite_shrink(nodes: &[Node], tails: &Option<Tails>) -> bool
+    requires { IfSome tails.now (λ known. AreTails known nodes.now) }
+    ensures { result ≡ list_any shrinks_infinitely nodes.now }
+{
+    if tails.is_some() {
+        return begins_with_infinite_shrink(nodes);
+    }
     nodes.iter().any(|node| node.shrinks_infinitely())
 }
 
@@ -103,10 +122,25 @@ fn top_glue(height: Dimen, params: &SplitParams) -> Option<Glue>
     })
 }
 
+/// The vbox of some glue and the items that are left below it, if its numbers fit. Only the items above the longest end whose measures are known are
+/// measured here.
+fn vbox_of_rest(glue: &Glue, left: &[Node], entries: &[Tail]) -> Option<Shell>
+    requires list_bounded { length left.now ≤ max_nodes }
+    requires ends { MeasureEnds entries.now left.now }
+    ensures value { result ≡ some_if (list_all fits (vbox_numbers Target.Natural no_limit (Node.Glue glue.now ∷ left.now)))
+        (vbox_shell Target.Natural no_limit (Node.Glue glue.now ∷ left.now)) }
+    ensures fits { is_some result ≡ list_all fits (vbox_numbers Target.Natural no_limit (Node.Glue glue.now ∷ left.now)) }
+    ensures shell { IfSome result (λ shell. shell ≡ vbox_shell Target.Natural no_limit (Node.Glue glue.now ∷ left.now)) }
+{
+    let end = known_end(entries, left);
+    vbox_below(Dimen::MAX, glue, &left[..left.len() - end.count], &end.tail)
+}
+
 /// The glue above the items that are left, the first of which is a box or a rule, and the vbox of both, if their numbers fit. Without items there is
 /// no glue, and the vbox is empty.
-fn top_of(left: &[Node], params: &SplitParams) -> Result<Top, SplitFault>
-    requires { length left.now ≤ max_nodes }
+fn top_of(left: &[Node], params: &SplitParams, entries: &[Tail]) -> Result<Top, SplitFault>
+    requires list_bounded { length left.now ≤ max_nodes }
+    requires ends { MeasureEnds entries.now left.now }
     ensures glue { IfOk result (λ top. glued_items top.glue left.now ≡ from_first_box params.now left.now) }
     ensures shell { IfOk result (λ top. top.shell ≡ vbox_shell Target.Natural no_limit (from_first_box params.now left.now)) }
     ensures fits { is_ok result
@@ -122,7 +156,7 @@ fn top_of(left: &[Node], params: &SplitParams) -> Result<Top, SplitFault>
     let Some(glue) = top_glue(first_height_of(first), params) else {
         return Err(SplitFault::DimensionTooLarge);
     };
-    match vbox_below(Dimen::MAX, &glue, left) {
+    match vbox_of_rest(&glue, left, entries) {
         None => Err(SplitFault::DimensionTooLarge),
         Some(shell) => Ok(Top {
             glue: Some(glue),
@@ -136,8 +170,10 @@ fn plan_rest(
     nodes: &[Node],
     place: usize,
     params: &SplitParams,
+    entries: &[Tail],
 ) -> Result<Option<SplitRest>, SplitFault>
     requires list_bounded { length nodes.now ≤ max_nodes }
+    requires ends { MeasureEnds entries.now (drop 1 nodes.now) }
     requires place_bounded { place ≤ length nodes.now }
     requires dropped { is_some_before_break (slice_get nodes.now place) ≡ false }
     ensures ok { IfOk result (λ rest. left_items rest nodes.now ≡ left_of params.now (drop place nodes.now)) }
@@ -152,7 +188,7 @@ fn plan_rest(
         return Ok(None);
     }
     let start = rest_start(nodes, first);
-    let top = top_of(&nodes[start..], params)?;
+    let top = top_of(&nodes[start..], params, entries)?;
     Ok(Some(SplitRest {
         first,
         start,
@@ -161,18 +197,26 @@ fn plan_rest(
     }))
 }
 
-/// The plan for splitting a list to this height. It fails exactly when the split does, except for lack of memory. Does not allocate.
-pub fn plan_split(nodes: &[Node], height: Dimen, params: &SplitParams) -> Result<Plan, SplitFault>
+/// The plan for splitting a list to this height. It fails exactly when the split does, except for lack of memory. If the tails are known, it looks at
+/// the items of the front, and at few below them. Does not allocate.
+pub fn plan_split(
+    nodes: &[Node],
+    tails: &Option<Tails>,
+    height: Dimen,
+    params: &SplitParams,
+) -> Result<Plan, SplitFault>
     requires list_bounded { length nodes.now ≤ max_nodes }
+    requires tails { IfSome tails.now (λ known. AreTails known nodes.now) }
     ensures place { IfOk result (λ p. p.place ≡ split_place params.now height nodes.now) }
     ensures rest_planned { IfOk result (λ p. left_items p.rest nodes.now ≡ left_of params.now (items_after params.now height nodes.now)) }
     ensures front { IfOk result (λ p. p.front ≡ vbox_shell (Target.To height) params.now.split_max_depth (take p.place nodes.now)) }
     ensures shell { IfOk result (λ p. IfSome p.rest (λ r. r.shell ≡ vbox_shell Target.Natural no_limit (rest_list r nodes.now))) }
     ensures sound { IfOk result (λ p. PlanFits nodes.now p) }
     ensures ok { OnOk result (refusal params.now height nodes.now ≡ None) }
+    ensures finite { OnOk result (list_any shrinks_infinitely nodes.now ≡ false) }
     ensures err { IfErr result (λ e. refusal params.now height nodes.now ≡ Some e) }
 {
-    if has_infinite_shrink(nodes) {
+    if has_infinite_shrink(nodes, tails) {
         return Err(SplitFault::InfiniteShrink);
     }
     let place = split_place(nodes, height, params);
@@ -180,6 +224,6 @@ pub fn plan_split(nodes: &[Node], height: Dimen, params: &SplitParams) -> Result
     let Some(front) = vbox_shell(Target::To(height), params.split_max_depth, before) else {
         return Err(SplitFault::DimensionTooLarge);
     };
-    let rest = plan_rest(nodes, place, params)?;
+    let rest = plan_rest(nodes, place, params, entries_of(tails))?;
     Ok(Plan { place, front, rest })
 }

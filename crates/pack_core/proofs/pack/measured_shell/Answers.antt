@@ -1,4 +1,4 @@
-use Rattle.std.proofs.Common.{◌≡◌, ◌∙◌, w64, SFits, arith, rules}
+use Rattle.std.proofs.Common.{◌≡◌, ◌∙◌, w64, SFits, rules}
 use Rattle.std.proofs.lemmas.Int.{to_z-of_z}
 use Rattle.std.specs.Prelude.{◌-ℤ◌}
 use Rattle.scaled_core.specs.Dimensions.{dimension_of}

@@ -1,12 +1,22 @@
-use Rattle.std.proofs.Common.{◌∙◌, ◌<◌, drop, length, ap, sym, arith}
+use Rattle.std.proofs.Common.{◌∙◌, ◌<◌, drop, length, ap, sym, subst, arith}
 use Rattle.std.specs.Prelude.{List}
 use Rattle.std.proofs.lemmas.List.{take_rest}
 use Rattle.node_core.specs.declared.tree.Node.{Node}
 use Rattle.pack_core.specs.declared.pack.Target.TheVariants.{Natural}
 use Rattle.pack_core.specs.Boxes.{vbox_shell}
 use Rattle.vert_core.specs.Split.{no_limit}
+use Rattle.vert_core.specs.Tails.{MeasureEnds}
+use Rattle.vert_core.proofs.Ends.{ends-from}
 use Rattle.vert_core.proofs.Rests.{first-after, planned-left, rest-fits, some-left, left-shell, not_ok}
 use Rattle.vert_core.proofs.plan.plan_rest.Goals as goal
+
+pub top_of-requires-clause-ends : goal.top_of-requires-clause-ends
+top_of-requires-clause-ends c =
+    let first = c.first_kept-first.ensures in
+    let below : c.first_kept-first.result < length c.args.nodes.now = omega (arith, first.place_bounded, c.if-first-nodes.false) in
+    let later = first-after c.args.nodes.now c.args.place c.first_kept-first.result c.requires.dropped (first.kept below) first.after in
+    subst (MeasureEnds c.args.entries.now) (sym (take_rest c.args.nodes.now c.rest_start-start.result))
+    (ends-from c.args.entries.now c.rest_start-start.result c.args.nodes.now (omega (arith, later, c.rest_start-start.ensures.after)) c.requires.ends)
 
 pub returns-in_err-top-clause-fits : goal.returns-in_err-top-clause-fits
 returns-in_err-top-clause-fits c =

@@ -1,4 +1,4 @@
-use Rattle.std.proofs.Common.{◌≡◌, ◌∙◌, ℤ, ◌+ℤ◌, take, ap, sym, arith}
+use Rattle.std.proofs.Common.{◌∙◌, ℤ, ◌+ℤ◌, ap, sym, arith}
 use Rattle.std.specs.Int.{int_max}
 use Rattle.std.proofs.lemmas.List.{take_all}
 use Rattle.node_core.specs.Nodes.{max_nodes}

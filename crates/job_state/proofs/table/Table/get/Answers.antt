@@ -1,7 +1,7 @@
 use Rattle.std.proofs.Common.{◌∙◌, arith}
 use Rattle.node_core.specs.declared.limits.TheConstants.{REGISTERS}
 use Rattle.job_state.proofs.Tables.{held_at, nothing_above}
-use Rattle.job_state.proofs.registers.Registers.get.Goals as goal
+use Rattle.job_state.proofs.table.Table.get.Goals as goal
 
 pub returns-then-number-len : goal.returns-then-number-len
 returns-then-number-len c =

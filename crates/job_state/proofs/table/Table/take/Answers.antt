@@ -1,7 +1,7 @@
 use Rattle.std.proofs.Common.{◌∙◌, None, refl, arith}
 use Rattle.node_core.specs.declared.limits.TheConstants.{REGISTERS}
 use Rattle.job_state.proofs.Tables.{held_at, nothing_above, set_first, set_nothing}
-use Rattle.job_state.proofs.registers.Registers.take.Goals as goal
+use Rattle.job_state.proofs.table.Table.take.Goals as goal
 
 pub returns-then-number-len-clause-value : goal.returns-then-number-len-clause-value
 returns-then-number-len-clause-value c =

@@ -1,5 +1,5 @@
 use Rattle.std.proofs.Common.{◌≡◌, ◌++◌, ◌-◌, length, None, replicate, vec_capacity}
-use Rattle.job_state.proofs.registers.put_above.Given as goal
+use Rattle.job_state.proofs.table.put_above.Given as goal
 
 abbrev pub invariant-loop : goal.invariant-loop
 invariant-loop l = record {
