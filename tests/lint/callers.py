@@ -29,11 +29,12 @@ PROGRAMS = ("boxglue", "boxglue_c", "examples_scripts", "examples_jobs")
 BESIDE = ("tests_", "rows_", "examples_")
 # Calls that stay for callers in Rattle, though the program has them in another form or does not
 # need them; `is_plain_body` tests the premise of `reuse`, and `lines` asks of its items what a job
-# knows from their meter, by `any_has_content`. One that is reached after all is wrong here, too: a
-# job that breaks by `breaks` beside `active_breaks` takes far more time, and no contract sees it.
-FOR_CALLERS = """node_core::any_has_content pack_core::offset break_core::breaks vert_core::append_box
-    vert_core::lines vert_core::split ship_core::plan move_core::is_plain_body
-    boxglue_program::run_rest""".split()
+# knows from their meter, by `any_has_content`; break_core's loop has the rule of `is_loosest` as
+# two numbers. One that is reached after all is wrong here, too: a job that breaks by `breaks`
+# beside `active_breaks` takes far more time, and no contract sees it.
+FOR_CALLERS = """node_core::any_has_content pack_core::offset break_lines::is_loosest
+    break_core::breaks vert_core::append_box vert_core::lines vert_core::split ship_core::plan
+    move_core::is_plain_body boxglue_program::run_rest""".split()
 EMPTY = ["{", "}"]
 # A file with methods and functions, and how the exported ones are named.
 MADE = """pub fn free() -> u8 ensures { uncalled 3 } { 1 }
