@@ -349,8 +349,8 @@ class Work:
 
     def large_worst(self):
         """The worst inputs of the last five items, at larger sizes."""
-        yield from self.of_first_lines(2000, 4000, 8190, large=True)
-        yield from self.of_splits(4000, 8000, 16000, large=True)
+        yield from self.of_first_lines(4000, 8190, large=True)
+        yield from self.of_splits(8000, 16000, large=True)
         yield from self.of_long_text(25, 50, 100, large=True)
         yield from self.of_many_glyphs(12, 25, 50, large=True)
         yield from self.of_many_numbers(40000, 80000, 160000, large=True)
