@@ -3,3 +3,4 @@ pub mod CutLemmas
 pub mod TextLemmas
 pub mod GlyphLemmas
 pub mod FrontLemmas
+mod TextFrontLemmas

@@ -9,7 +9,7 @@ use Rattle.std.proofs.Math.ListN.{drop_of_length-le}
 use Rattle.node_core.specs.declared.tree.Node.{Node}
 use Rattle.node_core.specs.declared.tree.Node.TheVariants.{FontKern}
 use Rattle.shape_core.specs.declared.word.Outcome.{Outcome}
-use Rattle.shape_core.specs.declared.word.Outcome.TheVariants.{Alone}
+use Rattle.shape_core.specs.declared.word.Outcome.TheVariants.{Alone, Kerned}
 use Rattle.scaled_core.specs.declared.sizes.Sizes.{Sizes}
 use Rattle.tfm_core.specs.declared.font.Step.{Step}
 use Rattle.tfm_core.specs.declared.font.Step.TheVariants.{Kern, Ligature}
@@ -53,6 +53,12 @@ outcome-alone sizes steps c d size at after = here (is_some (sizes d)) refl
     here : (b : Bool) → is_some (sizes d) ≡ b → Alone size ≡ outcome_of (sizes c) (cond (is_some (sizes d)) (steps c d) None)
     here true e = rw (e, at, after) refl
     here false e = rw (e, at) refl
+
+-- A character before which there is a kern to the next one becomes its glyph and the kern.
+pub outcome-kerned : (sizes : ℕ → Option Sizes) (steps : ℕ → ℕ → Option Step) (c d : ℕ) (size : Sizes) (width : ℤ) → sizes c ≡ Some size
+    → step_to sizes steps c (Some d) ≡ Some (Kern width) → Kerned size width ≡ outcome_at sizes steps c (Some d)
+unfolding outcome_at
+outcome-kerned sizes steps c d size width at after = rw (at, after) refl
 
 -- The end of the word.
 pub end-items : (slot : ℕ) (sizes : ℕ → Option Sizes) (steps : ℕ → ℕ → Option Step) (c : ℕ) (word : List ℕ) (i : ℕ) (all held new : List Node)

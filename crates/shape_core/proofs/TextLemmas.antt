@@ -25,13 +25,13 @@ pub stops : (p : ℕ → Bool) (c : ℕ) (text : List ℕ) → p c ≡ false →
 stops p c text e = ap (λ b. cond b (1 + prefix_len p text) 0) e
 
 -- A space before a word.
-before_word : (c d : ℕ) (parts : List TextPart) → parts_with c true (parts_with d false parts) ≡ spaces ∷ parts_with d false parts
+pub before_word : (c d : ℕ) (parts : List TextPart) → parts_with c true (parts_with d false parts) ≡ spaces ∷ parts_with d false parts
 before_word c d [] = refl
 before_word c d (spaces ∷ parts) = refl
 before_word c d ((word w) ∷ parts) = refl
 
 -- A character before spaces.
-before_spaces : (c d : ℕ) (parts : List TextPart) → parts_with c false (parts_with d true parts) ≡ word (c ∷ []) ∷ parts_with d true parts
+pub before_spaces : (c d : ℕ) (parts : List TextPart) → parts_with c false (parts_with d true parts) ≡ word (c ∷ []) ∷ parts_with d true parts
 before_spaces c d [] = refl
 before_spaces c d (spaces ∷ parts) = refl
 before_spaces c d ((word w) ∷ parts) = refl

@@ -5,6 +5,7 @@ pub mod fault;
 pub mod laws;
 pub mod metrics;
 pub mod text;
+mod text_front;
 pub mod word;
 
 pub use fault::ShapeFault;

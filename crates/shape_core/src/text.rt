@@ -11,11 +11,11 @@ ghost use Rattle.shape_core.specs.Private.Texts.{part_length};
 
 use crate::fault::ShapeFault;
 use crate::metrics::Metrics;
+use crate::text_front::append_text_front;
 use crate::word::{Missing, ShapedFront, admit, push, shape, shape_front};
 use node_core::Node;
 use node_core::limits::MAX_ITEMS;
 use std::alloc::AllocError;
-use std::mem::replace;
 
 /// The number of spaces at the beginning of a text.
 #[inline(always)]
@@ -82,9 +82,14 @@ fn shape_parts<M: Metrics>(
 {
     let mut characters = 0;
     while !text.is_empty() {
-        let part = shape_part(metrics, slot, text, limit, nodes)?;
+        let front = append_text_front(metrics, slot, text, nodes);
+        let rest = text.split_at(front).1;
+        if rest.is_empty() {
+            break;
+        }
+        let part = shape_part(metrics, slot, rest, limit, nodes)?;
         characters += part.missing;
-        text = text.split_at(part.length).1;
+        text = rest.split_at(part.length).1;
     }
     Ok(Missing { characters })
 }
@@ -110,13 +115,8 @@ pub fn shape_text<M: Metrics>(
     ensures memory { result ≡ Err ShapeFault.OutOfMemory → vec_capacity nodes.old < MAX_ITEMS }
 {
     let held = nodes.len();
-    let alloc = *nodes.allocator();
-    // The vector is moved here while it grows: as a value of this call it stays in registers, and its length is not written back after each
-    // character.
-    let mut items = replace(nodes, Vec::new(alloc));
     let limit = MAX_ITEMS;
-    let shaped = shape_parts(metrics, slot, text, limit, &mut items);
-    *nodes = items;
+    let shaped = shape_parts(metrics, slot, text, limit, nodes);
     match shaped {
         Ok(missing) => Ok(missing),
         Err(AllocError) => {

@@ -34,7 +34,7 @@ pub enum Outcome {
 
 /// The glyph of a character.
 #[inline(always)]
-fn glyph_node(slot: u8, code: u8, size: GlyphSize) -> Node
+pub(crate) fn glyph_node(slot: u8, code: u8, size: GlyphSize) -> Node
     ensures { result ≡ glyph_node slot code size }
 {
     Node::Glyph(Glyph {
@@ -80,7 +80,7 @@ fn outcome_before<M: Metrics>(metrics: &M, code: u8, following: u8) -> Outcome
 /// What a character becomes at the end of a word.
 #[inline(always)]
 #[tactic(auto, unfolding(crate::specs::Shaping::outcome_at))]
-fn last_outcome<M: Metrics>(metrics: &M, code: u8) -> Outcome
+pub(crate) fn last_outcome<M: Metrics>(metrics: &M, code: u8) -> Outcome
     ensures { result ≡ outcome_at (M.sizes metrics.now) (M.steps metrics.now) code None }
 {
     match metrics.glyph(code) {
