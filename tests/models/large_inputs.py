@@ -592,6 +592,22 @@ def large_metric_file():
     return data
 
 
+def metric_file_of_all_pairs():
+    """A metric file of 256 characters that share a program of 256 steps, one for each character: so
+    all 65,536 pairs have a kern. That of a pair is the number of its second character times 16 in a
+    fix word."""
+    head = [788, 2, 0, 255, 2, 1, 1, 1, 256, 256, 0, 7]
+    characters = [b"\1\0\1\0"] * 256
+    steps = [bytes([128 * (code == 255), code, 128, code]) for code in range(256)]
+    kerns = [(16 * code).to_bytes(4, "big") for code in range(256)]
+    words = b"\0\0\0\0" + (10 << 20).to_bytes(4, "big") + b"".join(characters)
+    words += b"\0\0\0\0" + (1 << 19).to_bytes(4, "big") + b"\0\0\0\0" * 3
+    counts = b"".join(it.to_bytes(2, "big") for it in head)
+    data = counts + words + b"".join(steps + kerns) + b"\0\0\0\0" * 7
+    assert len(data) == 4 * 788
+    return data
+
+
 def large_font():
     """A font file of 130 KB: kern 15,999 is between two characters that are 5pt wide."""
     kern = 10 * (KERNS - 1)

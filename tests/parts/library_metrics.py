@@ -1,5 +1,5 @@
 """The metrics of fonts as structs, by the program of bindings/c, and by drivers in Python and Rust.
-Those of the metric files of examples/ and of crates/rows_scripts, of a large one and of changed
+Those of the metric files of examples/ and of crates/rows_scripts, of large ones and of changed
 ones, at sizes of all kinds, are those that the tests' own reader gives; those of all fonts of TeX
 Live are what tftopl prints. The room for steps is none, exact, or too small by one, and each growth
 of memory is refused in turn."""
@@ -15,7 +15,7 @@ from common.outcome import lacks
 from common.part import in_turn
 from common.running import finished
 from common.texts import first_difference, last_lines, same
-from models.large_inputs import large_metric_file
+from models.large_inputs import large_metric_file, metric_file_of_all_pairs
 from models.metric_rows import rows_of_text, text_of, wanted
 from parts.library_growths import count_wrong, run_calls
 from parts.library_typed import rust_words
@@ -83,6 +83,16 @@ def model(root, name, archive):
         if refused == NO_GROWTHS and wanted(data, 0).startswith("status 1"):
             return None
         return count_wrong(refused)
+
+
+def all_pairs(root, archive):
+    """Compares the 65,536 steps of a file with those of the tests' own reader."""
+    data = metric_file_of_all_pairs()
+    with tempfile.TemporaryDirectory(prefix="boxglue-library-") as path:
+        room = Room(path, Input("", b""))
+        room.write("pairs.tfm", data)
+        printed = calls(root, archive, room, ["metrics", "0", "pairs.tfm"])
+    return first_difference("65,536 steps", printed.encode(), wanted(data, 0).encode())
 
 
 def in_python(root, archive, _folder):
@@ -223,6 +233,7 @@ def cases(programs, root):
         yield name, partial(outcome, partial(model, name=name), root, *programs)
     for name in ("tiny", "restarts", "tables"):
         yield f"copies of {name}", partial(outcome, partial(changed, name=name), root, *programs)
+    yield "65,536 steps", partial(outcome, all_pairs, root, *programs)
     yield "Python", partial(outcome, partial(driven, driver=in_python), root, *programs)
     yield "Rust", lambda: lacks("cargo") or outcome(
         partial(driven, driver=in_rust), root, *programs
