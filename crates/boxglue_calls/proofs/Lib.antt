@@ -1,5 +1,6 @@
 pub mod FaultLines
 pub mod FontTableLaws
+pub mod GlyphsAcross
 pub mod MarkRowLaws
 pub mod MarkTableLaws
 pub mod MeasuredFonts
@@ -15,6 +16,7 @@ pub mod StatusLaws
 pub mod Crossing
 pub mod HandedBytes
 pub mod Handles
+pub mod JobGlyphs
 pub mod KeptLaws
 pub mod KeptMoves
 pub mod LineCounts

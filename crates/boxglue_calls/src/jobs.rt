@@ -1,6 +1,7 @@
 //! The calls on a job that is kept between two calls, by a handle, and the calls whose replies are rows of numbers.
 
 mod handle;
+pub mod item_laws;
 mod jobs;
 mod kept_job;
 pub mod laws;
