@@ -22,7 +22,7 @@ use Rattle.break_lines.proofs.Entries.{get_at, get_left}
 use Rattle.break_core.specs.declared.active_list.Live.{Live}
 use Rattle.break_core.specs.declared.row.Offer.{Offer}
 use Rattle.break_core.specs.declared.row.Row.{Row}
-use Rattle.break_core.specs.Private.Active.{IsMetBy, IsCoveredBy, HaveBest}
+use Rattle.break_core.specs.Private.Active.{HaveBest}
 use Rattle.break_core.specs.Private.Filling.{IsOf, IsBestOffer, IsOfferingBest, offer_from}
 use Rattle.break_core.specs.Private.Offers.{no_entry, totals_of, shown_from, row_at, IsOffer, offer_numbers, offer_before, IsBestFor, AreBestFor, IsBefore, AreBefore, IsBetter, AreBetter, AreNumbered}
 use Rattle.break_core.proofs.Active.{shorter}
@@ -352,9 +352,7 @@ best_in_row (suc cut) table params group place alone old new none is = absurd (o
 
 -- The best entries stay the best ones in a longer table.
 pub best_longer : (table more : List Entry) (params : Params) (lives : List Live) → HaveBest table params lives → HaveBest (table ++ more) params lives
-best_longer table more params lives are k live at =
-    let is = are k live at in
-    (λ none class o here. best_in_longer class o (is.0 none class o here), met_longer is.1, covered_longer is.2)
+best_longer table more params lives are k live at none class o here = best_in_longer class o (are k live at none class o here)
   where
     best_in_longer : (class : Fitness) (o : Offer) → IsBestFor table params class live.group.start live.group.end o → IsBestFor (table ++ more) params class live.group.start live.group.end o
     best_in_longer class o is =
@@ -369,40 +367,4 @@ best_longer table more params lives are k live at =
           small = is.small;
           class_bounded = is.class_bounded;
           least = λ j f low high there. is.least j f low high (shorter table more j f (omega (arith, high, is.within)) there);
-        }
-
-    met_longer : IsMetBy table live.meets live.group → IsMetBy (table ++ more) live.meets live.group
-    met_longer is =
-        record {
-          within = omega (arith, is.within, length-append table more);
-          each = λ k e low high there.
-              let m = is.each k e low high (shorter table more k e (omega (arith, high, is.within)) there) in
-              record {
-                index = m.index;
-                low = m.low;
-                high = m.high;
-                entry = m.entry;
-                present = get_left table more m.index m.entry m.present;
-                lines = m.lines;
-                class = m.class;
-                as_good = m.as_good;
-              };
-        }
-
-    covered_longer : IsCoveredBy table live.group live.covered_by → IsCoveredBy (table ++ more) live.group live.covered_by
-    covered_longer is =
-        record {
-          within = omega (arith, is.within, length-append table more);
-          each = λ k e low high there.
-              let m = is.each k e low high (shorter table more k e (omega (arith, high, is.within)) there) in
-              record {
-                index = m.index;
-                low = m.low;
-                high = m.high;
-                entry = m.entry;
-                present = get_left table more m.index m.entry m.present;
-                lines = m.lines;
-                class = m.class;
-                at_most = m.at_most;
-              };
         }

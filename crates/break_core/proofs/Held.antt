@@ -14,7 +14,7 @@ use Rattle.break_lines.specs.declared.state.LineCost.{LineCost}
 use Rattle.break_lines.specs.declared.state.Fitness.{Fitness}
 use Rattle.break_lines.specs.Costs.{admitted_line, line_alone, after_class, adjacent_demerits}
 use Rattle.break_lines.proofs.Parts.{parts}
-use Rattle.break_core.specs.declared.active_list.Live.{Live}
+use Rattle.break_core.specs.declared.neighbours.Neighbours.{Neighbours}
 use Rattle.break_lines.specs.Orders.{NotAfter}
 use Rattle.break_lines.specs.Problems.{Problem, max_places, tie_numbers, end_after}
 use Rattle.break_lines.specs.Sizes.{fit_after, IsSmallLineFits}
@@ -23,10 +23,12 @@ use Rattle.break_lines.specs.Tables.{Entry, slot, slots, compared_numbers, exten
 use Rattle.break_lines.proofs.Dictionary.{not_after_refl, not_after_trans, not_after_later}
 use Rattle.break_lines.proofs.Reached.{IsExtended, extended_is, offer_is}
 use Rattle.break_core.specs.declared.counted.HeldLine.{HeldLine}
-use Rattle.break_core.specs.Private.Active.{HasMeeting, IsMetBy, AreAtMost, HasCover, IsCoveredBy, IsNext}
+use Rattle.break_core.specs.Private.Active.{IsNext}
+use Rattle.break_core.specs.Private.Near.{HasMeeting, IsMetBy, AreAtMost, HasCover, IsCoveredBy}
 use Rattle.break_core.specs.Private.Filling.{IsOf, CanOffer}
 use Rattle.break_core.specs.Private.Held.{IsSkipped, IsHeldOffered, IsCostBelow, AreBelow, IsDropped, IsHolding, held_beyond, IsMetWithin, AreEarlier, IsRowBut, IsHeldBack, IsRowUpTo}
 use Rattle.break_core.proofs.Active.{row_silent}
+use Rattle.break_core.proofs.Near.{covered_self}
 
 -- An entry whose line another problem has too is offered by that one.
 offered_again :
@@ -410,16 +412,7 @@ but_more p stop table b n low h g row within next before meets is =
         absurd (cc)
     later k o from to of (inr past) (inr here) = omega (arith, next.group.entries k of.by here to of.present, next.later, before)
 
--- A group covers itself, and what it covers covers with it.
-covered_self : (table : List Entry) (g : ActiveGroup) → g.end ≤ length table → IsCoveredBy table g g
-covered_self table g within =
-    record {
-      within = within;
-      each = λ k e from to there.
-          let same : e.demerits ≤ℤ e.demerits = omega (arith, ints) in
-          record { index = k; low = from; high = to; entry = e; present = there; lines = refl; class = refl; at_most = inr (refl, same) };
-    }
-
+-- What a group covers covers with it.
 at_most_trans : (a b c : Entry) → AreAtMost a b → AreAtMost b c → AreAtMost a c
 at_most_trans a b c (inl h) (inl k) = inl (omega (arith, ints))
 at_most_trans a b c (inl h) (inr k) = inl (omega (arith, ints, k.0))
@@ -557,17 +550,17 @@ line_covered p stop params bound table b n low penalty held next is since covers
 -- The next line is held back, or dropped.
 pub held_next :
     (p : Problem) (stop : ℕ → ℕ → Bool) (params : Params) (bound : Bound) (table : List Entry) (b n low : ℕ) (penalty : ℤ) (held now : Option HeldLine)
-    (next : HeldLine) (live : Live) (old new : List (Option Entry))
+    (next : HeldLine) (near : Neighbours) (old new : List (Option Entry))
     → p.cut ≡ params.first_lines → b ≤ p.places → b ≤ max_places → penalty <ℤ pos 10000
     → IsNext p stop table b n low next.group → AreEarlier p table b n low
-    → next.last ≡ next.group → live.group ≡ next.group → IsMetBy table live.meets live.group → IsCoveredBy table live.group live.covered_by
+    → next.last ≡ next.group → near.group ≡ next.group → IsMetBy table near.meets near.group → IsCoveredBy table near.group near.covered_by
     → IsOf params.first_lines table next.group → IsSmallLineFits next.line
     → ((s : BreakState) → s.place ≡ next.group.place
     → p.line s b ≡ cond next.left_out None (admitted_line params bound penalty s.class (fit_after params.first_lines s.lines next.line)))
     → IsRowUpTo p params bound table b penalty held n low old
-    → IsHolding table params bound b penalty live next held now old new
+    → IsHolding table params bound b penalty near next held now old new
     → IsRowUpTo p params bound table b penalty now next.group.end (next.group.place + 1) new
-held_next p stop params bound table b n low penalty held now next live old new cut within places penalty_bounded is early own_last own met covered entries fit_bounded line before made = cases held before made
+held_next p stop params bound table b n low penalty held now next near old new cut within places penalty_bounded is early own_last own met covered entries fit_bounded line before made = cases held before made
   where
     back : IsRowBut p table b next.group next.group.end new → IsHeldBack p params bound table b penalty next next.group.end (next.group.place + 1) new
     back but =
@@ -593,20 +586,20 @@ held_next p stop params bound table b n low penalty held now next live old new c
     up_to same but =
         subst (λ x. IsRowUpTo p params bound table b penalty x next.group.end (next.group.place + 1) new) (sym same) (back but)
 
-    skipped : (was : HeldLine) → IsHeldBack p params bound table b penalty was n low old → IsSkipped (Some was) next live.meets → IsRowBut p table b next.group next.group.end old
+    skipped : (was : HeldLine) → IsHeldBack p params bound table b penalty was n low old → IsSkipped (Some was) next near.meets → IsRowBut p table b next.group next.group.end old
     skipped was held_back alike =
         but_next p stop table b n low was.group next.group old within is early (omega (arith, held_back.before, is.later))
         (line_met p stop params bound table b n low penalty was next is (omega (arith, held_back.before, is.later))
-        (subst (λ g. IsMetBy table g next.group) alike.1 (subst (IsMetBy table live.meets) own met)) alike.0 alike.2 held_back.can.entries held_back.line line)
+        (subst (λ g. IsMetBy table g next.group) alike.1 (subst (IsMetBy table near.meets) own met)) alike.0 alike.2 held_back.can.entries held_back.line line)
         held_back.but
 
     beyond :
-        (was : HeldLine) → IsHeldBack p params bound table b penalty was n low old → IsDropped params bound penalty (Some was) next live.covered_by
+        (was : HeldLine) → IsHeldBack p params bound table b penalty was n low old → IsDropped params bound penalty (Some was) next near.covered_by
         → IsRowUpTo p params bound table b penalty (held_beyond (Some was) next.group) next.group.end (next.group.place + 1) old
     beyond was held_back dropped =
         let covers : IsCoveredBy table next.group was.group =
         covered_trans table next.group was.last was.group
-        (subst (IsCoveredBy table next.group) dropped.1 (subst (λ g. IsCoveredBy table g live.covered_by) own covered)) held_back.covers in
+        (subst (IsCoveredBy table next.group) dropped.1 (subst (λ g. IsCoveredBy table g near.covered_by) own covered)) held_back.covers in
         record {
           but = but_more p stop table b n low was.group next.group old within is held_back.before
               (line_covered p stop params bound table b n low penalty was next is held_back.since covers dropped.0 dropped.2 held_back.can.entries held_back.line line)
@@ -620,7 +613,7 @@ held_next p stop params bound table b n low penalty held now next live old new c
         }
 
     cases :
-        (was : Option HeldLine) → IsRowUpTo p params bound table b penalty was n low old → IsHolding table params bound b penalty live next was now old new
+        (was : Option HeldLine) → IsRowUpTo p params bound table b penalty was n low old → IsHolding table params bound b penalty near next was now old new
         → IsRowUpTo p params bound table b penalty now next.group.end (next.group.place + 1) new
     cases was at (inr (inr (same, offered))) =
         up_to same (but_start p stop table b n low next.group new within is early (held_offered p params bound table b n low penalty was old new cut at offered))

@@ -5,6 +5,7 @@ pub mod Admitting
 pub mod Overfull
 pub mod Waiting
 pub mod Active
+pub mod Near
 pub mod Counts
 pub mod Added
 pub mod Joined

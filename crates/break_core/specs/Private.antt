@@ -4,3 +4,4 @@ pub mod Filling
 pub mod Offers
 pub mod LeftOut
 pub mod Held
+pub mod Near

@@ -12,16 +12,12 @@ use break_lines::{ActiveGroup, Sums};
 use std::alloc::AllocError;
 
 /// A group of entries from which lines are tried. `over` is the width, shrunk as far as possible, of the line to the first place to which it was
-/// overfull. `best` has for each class, if no lines are counted, the entry that makes the best offer by a line of this class. If lines are counted,
-/// `meets` is an earlier group whose offers by the same line are met by those of this one, and `covered_by` is one that has entries for the same
-/// states with totals that are at most those of this one. Each is this group itself if there is no such group.
+/// overfull. `best` has for each class, if no lines are counted, the entry that makes the best offer by a line of this class.
 #[derive(Clone, Copy, Debug, PartialEq, Eq)]
 pub(crate) struct Live {
     pub(crate) group: ActiveGroup,
     pub(crate) over: Option<i64>,
     pub(crate) best: [Offer; 4],
-    pub(crate) meets: ActiveGroup,
-    pub(crate) covered_by: ActiveGroup,
 }
 
 /// The groups from which lines are tried, in the order of their places: those of a list from number `first` on. Mostly trying stops from the first
@@ -44,18 +40,15 @@ impl LiveGroups {
 
 /// The last group of a list, or this group if the list is empty.
 #[inline]
-pub(crate) fn last_group<const COUNTED: bool>(
-    lives: &LiveGroups,
-    group: ActiveGroup,
-) -> ActiveGroup {
+pub(crate) fn last_group(lives: &LiveGroups, group: ActiveGroup) -> ActiveGroup {
     let count = lives.list.len();
-    if !COUNTED || count == 0 {
+    if count == 0 {
         return group;
     }
     lives.list[count - 1].group
 }
 
-/// How many groups from which trying has stopped stay in front of the others.
+/// How many groups from which trying has stopped always stay in front of the others.
 const MOST_STOPPED: usize = 32;
 
 /// Whether a line of this width, shrunk as far as possible, has more overhang than the first overfull line.
@@ -94,8 +87,6 @@ pub(crate) fn keep_over(lives: &mut Vec<Live>, index: usize, overfull: bool, wid
           group = live.group;
           over = kept_over live.over overfull width;
           best = live.best;
-          meets = live.meets;
-          covered_by = live.covered_by;
         }) }
 {
     if overfull {
@@ -114,8 +105,6 @@ pub(crate) fn keep_over_after(lives: &mut Vec<Live>, index: usize, overfull: boo
           group = live.group;
           over = kept_over live.over overfull (least_width sums.now);
           best = live.best;
-          meets = live.meets;
-          covered_by = live.covered_by;
         }) }
 {
     if overfull {
@@ -178,7 +167,7 @@ pub(crate) fn remove_groups(lives: &mut Vec<Live>, kept: usize, next: usize)
     lives.truncate(remaining);
 }
 
-/// Removes the groups from which trying has stopped, if there are many, or all groups.
+/// Removes the groups from which trying has stopped, if there are many and more than others, or all groups. So few groups are moved for each one.
 #[inline]
 pub(crate) fn remove_stopped(lives: &mut LiveGroups, all: bool)
     requires first_bounded { lives.old.first ≤ length lives.old.list.items }
@@ -190,7 +179,8 @@ pub(crate) fn remove_stopped(lives: &mut LiveGroups, all: bool)
         lives.first = 0;
         return;
     }
-    if lives.first < MOST_STOPPED {
+    let most = (lives.list.len() - lives.first).max(MOST_STOPPED);
+    if lives.first < most {
         return;
     }
     remove_groups(&mut lives.list, 0, lives.first);

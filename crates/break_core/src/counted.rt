@@ -10,12 +10,14 @@ ghost use Rattle.break_lines.specs.Costs.{line_alone};
 ghost use Rattle.break_lines.specs.SmallCosts.{IsSmallLineFit};
 ghost use Rattle.break_core.specs.Private.Filling.{CanOffer, CountsMayGrow};
 ghost use Rattle.break_core.specs.Private.Held.{IsSkipped, IsHeldOffered, IsCostBelow, AreBelow, IsDropped, IsHolding, held_beyond};
+ghost use Rattle.break_core.specs.Private.Near.{HaveNeighbours};
 ghost use Rattle.break_core.specs.Private.Offers.{row_at, AreOffers, IsEmpty, IsSameRow};
 ghost use Rattle.break_core.specs.Private.Active.{stops_at, problem_leaving_out, groups_of, live_of, MayStop};
 ghost use Rattle.break_core.specs.Private.Active.{AreOver, HaveBest, IsActive, IsFilled, IsSwept};
 ghost use Rattle.break_core.specs.Private.Active.{TrialsOnlyGrow, WasTried};
 
-use crate::active_list::{Live, LiveGroups, keep_group, keep_over, remove_groups};
+use crate::active_list::{LiveGroups, keep_group, keep_over, remove_groups};
+use crate::neighbours::{Neighbours, is_same_group, neighbours_of};
 use crate::offering::{TriedPlace, either, offer_counted};
 use crate::row::Row;
 use break_lines::{ActiveGroup, Entry, LineCost, LineFit, LineFits, Meter, fit_both, line_alone};
@@ -44,14 +46,6 @@ fn are_same_fits(a: &LineFits, b: &LineFits) -> bool
     ensures { result ≡ true → a.now ≡ b.now }
 {
     is_same_fit(&a.first, &b.first) && is_same_fit(&a.rest, &b.rest)
-}
-
-/// Whether two groups are the same.
-#[inline(always)]
-fn is_same_group(a: ActiveGroup, b: ActiveGroup) -> bool
-    ensures { result ≡ true → a ≡ b }
-{
-    a.place == b.place && a.start == b.start && a.end == b.end
 }
 
 /// Whether the offers by a line that is held back, if there is one, are met by those by the next line: its group meets the other one, and both lines
@@ -178,22 +172,22 @@ fn hold_next(
     at: &TriedPlace,
     held: &mut Option<HeldLine>,
     next: HeldLine,
-    live: &Live,
+    near: &Neighbours,
 ) -> bool
     requires can { IfSome held.old (λ line. CanOffer at.now.rules.now.params.now.first_lines row.old.items at.now.table.now line.group at.now.place
         at.now.penalty) }
     requires fit_bounded { IfSome held.old (λ line. IsSmallLineFits line.line) }
     requires next_bounded { IsSmallLineFits next.line }
     requires penalty { at.now.penalty <ℤ pos 10000 }
-    ensures row { IsHolding at.now.table.now at.now.rules.now.params.now at.now.rules.now.bound at.now.place at.now.penalty live.now next
+    ensures row { IsHolding at.now.table.now at.now.rules.now.params.now at.now.rules.now.bound at.now.place at.now.penalty near.now next
         held.old held.new row.old.items row.new.items }
     ensures untouched { result ≡ false → row.new.items ≡ row.old.items }
 {
-    if is_skipped(held, &next, live.meets) {
+    if is_skipped(held, &next, near.meets) {
         *held = Some(next);
         return false;
     }
-    if is_dropped(held, &next, live.covered_by, at) {
+    if is_dropped(held, &next, near.covered_by, at) {
         *held = held_beyond(held, next);
         return false;
     }
@@ -211,6 +205,7 @@ pub(crate) fn try_counted_lines<M: Meter>(
     meter: &mut M,
     at: &TriedPlace,
     lives: &mut LiveGroups,
+    neighbours: &[Neighbours],
     row: &mut Row,
 ) -> bool
     requires counted { 0 < at.now.rules.now.params.now.first_lines }
@@ -224,6 +219,7 @@ pub(crate) fn try_counted_lines<M: Meter>(
         (groups_of (live_of lives.old)) }
     requires over { AreOver (M.facts meter.old) at.now.rules.now.params.now at.now.place (live_of lives.old) }
     requires best { HaveBest at.now.table.now at.now.rules.now.params.now (live_of lives.old) }
+    requires known { HaveNeighbours at.now.table.now neighbours.now }
     requires first_bounded { lives.old.first ≤ length lives.old.list.items }
     requires empty { IsEmpty at.now.rules.now.params.now.first_lines row.old }
     requires may { MayStop at.now.rules.now.stop_rule (M.facts meter.old) at.now.rules.now.params.now at.now.rules.now.bound }
@@ -268,7 +264,8 @@ pub(crate) fn try_counted_lines<M: Meter>(
             line,
             last: live.group,
         };
-        let now = hold_next(&mut row.counted, at, &mut held, next, live);
+        let near = neighbours_of(neighbours, live.group);
+        let now = hold_next(&mut row.counted, at, &mut held, next, &near);
         keep_over(&mut lives.list, index, overfull, width);
         offered = either(offered, now);
         kept = keep_group(lives, stopped, kept, index);

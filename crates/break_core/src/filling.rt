@@ -6,6 +6,7 @@ ghost use Rattle.break_lines.specs.Problems.{max_places};
 ghost use Rattle.break_lines.specs.Even.{IsEven};
 ghost use Rattle.break_lines.specs.Legal.{is_forced};
 ghost use Rattle.break_core.specs.Private.Filling.{IsKind, CountsMayGrow};
+ghost use Rattle.break_core.specs.Private.Near.{HaveNeighbours};
 ghost use Rattle.break_core.specs.Private.Offers.{row_at, AreOffers, IsEmpty, IsSameRow};
 ghost use Rattle.break_core.specs.Private.Active.{stops_at, problem_leaving_out, groups_of, live_of, MayStop};
 ghost use Rattle.break_core.specs.Private.Active.{AreOver, HaveBest, IsActive, IsFilled, IsSwept};
@@ -14,6 +15,7 @@ ghost use Rattle.break_core.specs.Private.Active.{TrialsOnlyGrow, WasTried};
 
 use crate::active_list::{LiveGroups, keep_group, keep_over_after, remove_groups, rest_of};
 use crate::counted::try_counted_lines;
+use crate::neighbours::{Neighbours, keep_neighbours};
 use crate::offering::{
     TriedPlace, add_entries, all_wait, either, is_overfull, judge, new_live, offer_line,
     offer_waiting,
@@ -23,11 +25,13 @@ use crate::row::{Row, move_row, new_row};
 use break_lines::{ActiveGroup, Entry, Meter};
 use std::alloc::{AllocError, Global};
 
-/// The table up to a place, and the groups of its entries from which lines to later places are tried.
+/// The table up to a place, and the groups of its entries from which lines to later places are tried, with their neighbours by place if lines are
+/// counted.
 #[derive(Drop)]
 struct FilledTable {
     table: Vec<Entry>,
     live: LiveGroups,
+    neighbours: Vec<Neighbours>,
 }
 
 /// For how many groups there is room from the start. Few paragraphs need more.
@@ -101,17 +105,17 @@ fn try_lines<M: Meter>(
         let live = &lives.list[index];
         let sums = meter.try_line(live.group.place, place);
         let line = judge(sums, rules.params);
-        let overfull = is_overfull::<false>(&line, rules.params);
+        let overfull = is_overfull(&line, rules.params);
         let left_out = rules
             .stop_rule
             .leaves_out_overfull(live.over, overfull, &line.sums);
         let stopped = rules.stop_rule.stops_after_overfull(overfull, left_out);
         keep_over_after(&mut lives.list, index, overfull, &line.sums);
-        let now = offer_line::<false>(left_out, row, at, &lives.list[index], &line);
+        let now = offer_line(left_out, row, at, &lives.list[index], &line);
         offered = either(offered, now);
         kept = keep_group(lives, stopped, kept, index);
         index += 1;
-        waits = all_wait::<false>(&line, rules);
+        waits = all_wait(&line, rules);
     }
     let waiting = offer_waiting(row, at, rest_of(&lives.list, index));
     remove_groups(&mut lives.list, kept, index);
@@ -124,6 +128,7 @@ fn try_each_line<M: Meter, const COUNTED: bool>(
     meter: &mut M,
     at: &TriedPlace,
     lives: &mut LiveGroups,
+    neighbours: &[Neighbours],
     row: &mut Row,
 ) -> bool
     requires kind { IsKind COUNTED at.now.rules.now.params.now.first_lines }
@@ -137,6 +142,7 @@ fn try_each_line<M: Meter, const COUNTED: bool>(
         (groups_of (live_of lives.old)) }
     requires over { AreOver (M.facts meter.old) at.now.rules.now.params.now at.now.place (live_of lives.old) }
     requires best { HaveBest at.now.table.now at.now.rules.now.params.now (live_of lives.old) }
+    requires known { HaveNeighbours at.now.table.now neighbours.now }
     requires first_bounded { lives.old.first ≤ length lives.old.list.items }
     requires empty { IsEmpty at.now.rules.now.params.now.first_lines row.old }
     requires may { MayStop at.now.rules.now.stop_rule (M.facts meter.old) at.now.rules.now.params.now at.now.rules.now.bound }
@@ -161,7 +167,7 @@ fn try_each_line<M: Meter, const COUNTED: bool>(
     ensures untouched { result ≡ false → IsSameRow row.old row.new }
 {
     if COUNTED {
-        return try_counted_lines(meter, at, lives, row);
+        return try_counted_lines(meter, at, lives, neighbours, row);
     }
     try_lines(meter, at, lives, row)
 }
@@ -190,6 +196,7 @@ fn add_place<M: Meter, const COUNTED: bool>(
         (stops_at (M.facts meter.old) rules.now.params.now rules.now.stop_rule) place reached.old.table.items (groups_of (live_of reached.old.live)) }
     requires over { AreOver (M.facts meter.old) rules.now.params.now place (live_of reached.old.live) }
     requires best { HaveBest reached.old.table.items rules.now.params.now (live_of reached.old.live) }
+    requires known { HaveNeighbours reached.old.table.items reached.old.neighbours.items }
     requires first_bounded { reached.old.live.first ≤ length reached.old.live.list.items }
     requires empty { IsEmpty rules.now.params.now.first_lines row.old }
     requires may { MayStop rules.now.stop_rule (M.facts meter.old) rules.now.params.now rules.now.bound }
@@ -201,6 +208,7 @@ fn add_place<M: Meter, const COUNTED: bool>(
         reached.new.table.items (groups_of (live_of reached.new.live))) }
     ensures over { OnOk result (AreOver (M.facts meter.old) rules.now.params.now (place + 1) (live_of reached.new.live)) }
     ensures best { OnOk result (HaveBest reached.new.table.items rules.now.params.now (live_of reached.new.live)) }
+    ensures known { OnOk result (HaveNeighbours reached.new.table.items reached.new.neighbours.items) }
     ensures first_bounded { OnOk result (reached.new.live.first ≤ length reached.new.live.list.items) }
     ensures empty { OnOk result (IsEmpty rules.now.params.now.first_lines row.new) }
     ensures facts { M.facts meter.new ≡ M.facts meter.old }
@@ -215,7 +223,13 @@ fn add_place<M: Meter, const COUNTED: bool>(
         place,
         penalty: breakpoint.penalty,
     };
-    let offered = try_each_line::<M, COUNTED>(meter, &at, &mut reached.live, row);
+    let offered = try_each_line::<M, COUNTED>(
+        meter,
+        &at,
+        &mut reached.live,
+        &reached.neighbours,
+        row,
+    );
     let forced = breakpoint.is_forced();
     if is_passed_over(offered, forced) {
         return Ok(());
@@ -232,6 +246,12 @@ fn add_place<M: Meter, const COUNTED: bool>(
         start,
         end: reached.table.len(),
     };
+    keep_neighbours::<COUNTED>(
+        &mut reached.neighbours,
+        &reached.table,
+        group,
+        &reached.live,
+    )?;
     add_entries::<COUNTED>(
         &mut reached.live,
         &reached.table,
@@ -268,6 +288,7 @@ fn fill_places<M: Meter, const COUNTED: bool>(
     let mut reached = FilledTable {
         table,
         live: LiveGroups { list, first: 0 },
+        neighbours: Vec::new(alloc),
     };
     reached.table.push(Entry::first())?;
     let group = ActiveGroup {
@@ -275,7 +296,7 @@ fn fill_places<M: Meter, const COUNTED: bool>(
         start: 0,
         end: 1,
     };
-    let live = new_live::<COUNTED>(&reached.table, group, group, rules.params);
+    let live = new_live::<COUNTED>(&reached.table, group, rules.params);
     reached.live.list.push(live)?;
     // The row is reused for all places.
     let mut row = new_row(alloc, rules.params.first_lines.get())?;

@@ -16,6 +16,7 @@ mod broken;
 mod counted;
 mod filling;
 pub mod laws;
+mod neighbours;
 mod offering;
 mod pass_rules;
 mod passes;

@@ -13,14 +13,13 @@ ghost use Rattle.break_core.specs.Private.Offers.{shown_from, row_at, AreOffers,
 ghost use Rattle.break_core.specs.Private.Offers.{AreNumbered, IsSameRow};
 ghost use Rattle.break_core.specs.Private.Active.{is_limit, live_of, with_live};
 ghost use Rattle.break_core.specs.Private.Active.{HasBest, AreOffersBefore, CanOfferWaiting, IsOfferingEach, IsOfferingWaiting};
-ghost use Rattle.break_core.specs.Private.Active.{IsMetBy, AreAtMost, IsCoveredBy};
 
-use crate::active_list::{Live, LiveGroups, last_group, remove_stopped};
+use crate::active_list::{Live, LiveGroups, remove_stopped};
 use crate::pass_rules::Rules;
 use crate::row::{Offer, Row, is_as_good, put_offer};
 use break_lines::{
-    ActiveGroup, Bound, BreakState, Entry, Fitness, LineCost, LineFit, LineFits, Sums, fit_both,
-    fit_line, line_alone, offer,
+    ActiveGroup, Bound, Entry, Fitness, LineCost, LineFit, LineFits, Sums, fit_line, line_alone,
+    offer,
 };
 use node_core::Params;
 use std::alloc::AllocError;
@@ -182,119 +181,11 @@ fn best_offers<const COUNTED: bool>(
     best_of(table, group, params)
 }
 
-/// The number of the first entry among numbers `from` to `end` that has the lines and the class of a state, or `end` or more.
-fn number_of_state(table: &[Entry], state: BreakState, from: usize, end: usize) -> usize
-    requires end_bounded { end ≤ length table.now }
-    ensures low { from ≤ result }
-    ensures found { result < end → (e : Entry) → slice_get table.now result ≡ Some e → (e.end.lines ≡ state.lines) × (e.end.class ≡ state.class) }
-{
-    let mut index = from;
-    while index < end {
-        let other = table[index].end();
-        if other.lines == state.lines && other.class == state.class {
-            return index;
-        }
-        index += 1;
-    }
-    index
-}
-
-/// Whether for each entry of an earlier group a later one has an entry for the same lines and class that is as good or better. Entries of both have
-/// the same order.
-fn is_met(table: &[Entry], earlier: ActiveGroup, later: ActiveGroup) -> bool
-    requires later_bounded { later.end ≤ length table.now }
-    ensures { result ≡ true → IsMetBy table.now earlier later }
-{
-    if earlier.end > table.len() {
-        return false;
-    }
-    let mut by = later.start;
-    for index in earlier.start..earlier.end {
-        let entry = table[index];
-        by = number_of_state(table, entry.end(), by, later.end);
-        if by >= later.end {
-            return false;
-        }
-        if !table[by].is_not_after(entry) {
-            return false;
-        }
-    }
-    true
-}
-
-/// The group that a new one meets, if lines are counted: the previous one, if it does, and else itself.
-#[inline]
-fn group_met<const COUNTED: bool>(
-    table: &[Entry],
-    group: ActiveGroup,
-    previous: ActiveGroup,
-) -> ActiveGroup
-    requires group_bounded { group.end ≤ length table.now }
-    ensures { IsMetBy table.now result group }
-{
-    if COUNTED && is_met(table, previous, group) {
-        return previous;
-    }
-    group
-}
-
-/// Whether the totals of an entry are at most those of another one.
-fn is_at_most(a: Entry, b: Entry) -> bool
-    ensures { result ≡ true → AreAtMost a b }
-{
-    if a.overhang() < b.overhang() {
-        return true;
-    }
-    if a.overhang() > b.overhang() {
-        return false;
-    }
-    a.demerits() <= b.demerits()
-}
-
-/// Whether for each entry of a later group an earlier one has an entry for the same lines and class whose totals are at most as great.
-fn is_covered(table: &[Entry], later: ActiveGroup, earlier: ActiveGroup) -> bool
-    requires later_bounded { later.end ≤ length table.now }
-    ensures { result ≡ true → IsCoveredBy table.now later earlier }
-{
-    if earlier.end > table.len() {
-        return false;
-    }
-    let mut by = earlier.start;
-    for index in later.start..later.end {
-        let entry = table[index];
-        by = number_of_state(table, entry.end(), by, earlier.end);
-        if by >= earlier.end {
-            return false;
-        }
-        if !is_at_most(table[by], entry) {
-            return false;
-        }
-    }
-    true
-}
-
-/// The group that covers a new one, if lines are counted: the previous one, if it does, and else itself.
-#[inline]
-fn group_covering<const COUNTED: bool>(
-    table: &[Entry],
-    group: ActiveGroup,
-    previous: ActiveGroup,
-) -> ActiveGroup
-    requires group_bounded { group.end ≤ length table.now }
-    ensures { IsCoveredBy table.now group result }
-{
-    if COUNTED && is_covered(table, group, previous) {
-        return previous;
-    }
-    group
-}
-
 /// A group from which no line has been tried yet.
 #[inline(always)]
 pub(crate) fn new_live<const COUNTED: bool>(
     table: &[Entry],
     group: ActiveGroup,
-    previous: ActiveGroup,
     params: &Params,
 ) -> Live
     requires kind { IsKind COUNTED params.now.first_lines }
@@ -308,8 +199,6 @@ pub(crate) fn new_live<const COUNTED: bool>(
         group,
         over: None,
         best: best_offers::<COUNTED>(table, group, params),
-        meets: group_met::<COUNTED>(table, group, previous),
-        covered_by: group_covering::<COUNTED>(table, group, previous),
     }
 }
 
@@ -332,12 +221,11 @@ pub(crate) fn add_entries<const COUNTED: bool>(
         × (live_of lives.new ≡ with_live (if forced then [] else live_of lives.old) live)) }
     ensures first_bounded { OnOk result (lives.new.first ≤ length lives.new.list.items) }
 {
-    let previous = last_group::<COUNTED>(lives, group);
     remove_stopped(lives, forced);
     if group.start == group.end {
         return Ok(());
     }
-    let live = new_live::<COUNTED>(table, group, previous, params);
+    let live = new_live::<COUNTED>(table, group, params);
     lives.list.push(live)?;
     Ok(())
 }
@@ -377,17 +265,14 @@ pub(crate) fn judge(sums: Sums, params: &Params) -> JudgedLine
     }
 }
 
-/// Whether a line is overfull after any number of lines.
+/// Whether a line is overfull, if no lines are counted.
 #[inline(always)]
-pub(crate) fn is_overfull<const COUNTED: bool>(line: &JudgedLine, params: &Params) -> bool
-    requires kind { IsKind COUNTED params.now.first_lines }
+pub(crate) fn is_overfull(line: &JudgedLine, params: &Params) -> bool
+    requires uncounted { params.now.first_lines ≡ 0 }
     requires judged { IsJudged params.now line.now }
     ensures { result
         ≡ ((fits_of_sums params.now line.now.sums).first.overfull && (fits_of_sums params.now line.now.sums).rest.overfull) }
 {
-    if COUNTED {
-        return fit_both(&line.sums, params).is_overfull();
-    }
     line.fit.overfull
 }
 
@@ -456,31 +341,27 @@ fn is_too_loose(rules: &Rules, fit: &LineFit) -> bool
 }
 
 /// Whether all later groups wait after a line: groups wait, and the line is so loose that a line that is stretched by more costs the same in the
-/// pass. No group waits if lines are counted.
+/// pass. No lines are counted.
 #[inline(always)]
-pub(crate) fn all_wait<const COUNTED: bool>(line: &JudgedLine, rules: &Rules) -> bool
-    requires kind { IsKind COUNTED rules.now.params.now.first_lines }
+pub(crate) fn all_wait(line: &JudgedLine, rules: &Rules) -> bool
     requires judged { IsJudged rules.now.params.now line.now }
-    ensures uncounted { result ≡ true → rules.now.params.now.first_lines ≡ 0 }
     ensures waits { result ≡ true → rules.now.waits ≡ true }
     ensures loosest { result ≡ true → is_loosest rules.now.bound (line_fit line.now.sums rules.now.params.now.hsize) ≡ true }
 {
-    if COUNTED {
-        return false;
-    }
     is_too_loose(rules, &line.fit)
 }
 
-/// Offers the entries of a group for a place, by a line that was tried from there, unless it is left out. Returns whether entries were offered.
+/// Offers the entries of a group for a place, by a line that was tried from there, unless it is left out, if no lines are counted. Returns whether
+/// entries were offered.
 #[inline(always)]
-pub(crate) fn offer_line<const COUNTED: bool>(
+pub(crate) fn offer_line(
     left_out: bool,
     row: &mut Row,
     at: &TriedPlace,
     live: &Live,
     line: &JudgedLine,
 ) -> bool
-    requires kind { IsKind COUNTED at.now.rules.now.params.now.first_lines }
+    requires uncounted { at.now.rules.now.params.now.first_lines ≡ 0 }
     requires can { CanOffer at.now.rules.now.params.now.first_lines
         (row_at at.now.rules.now.params.now.first_lines at.now.table.now at.now.place row.old) at.now.table.now live.now.group
         at.now.place at.now.penalty }
@@ -496,10 +377,6 @@ pub(crate) fn offer_line<const COUNTED: bool>(
     ensures held { at.now.rules.now.params.now.first_lines ≡ 0 → AreOffers at.now.table.now (live.now.group.place + 1) row.new.offers }
     ensures untouched { result ≡ false → IsSameRow row.old row.new }
 {
-    if COUNTED {
-        let fits = fit_both(&line.sums, at.rules.params);
-        return offer_counted(left_out, &mut row.counted, at, live.group, &fits);
-    }
     if left_out {
         return false;
     }

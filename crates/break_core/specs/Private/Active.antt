@@ -1,5 +1,5 @@
 -- The groups of entries from which lines are still tried, and the number of trials (own).
-use Rattle.std.specs.Prelude.{◌≡◌, ◌<◌, ◌≤◌, ◌+◌, ◌-◌, ◌⊎◌, ◌<ℤ◌, ◌≤ℤ◌, ℕ, ℤ, Bool, true, false, ◌||◌, List, [], ◌∷◌}
+use Rattle.std.specs.Prelude.{◌≡◌, ◌<◌, ◌≤◌, ◌+◌, ◌-◌, ◌⊎◌, ◌<ℤ◌, ℕ, ℤ, Bool, true, false, ◌||◌, List, [], ◌∷◌}
 use Rattle.std.specs.Prelude.{◌++◌, ◌==◌, if◌then◌else◌, length, map}
 use Rattle.std.specs.Prelude.{pos, int_lt, drop, slice_get, Option, Some, None}
 use Rattle.node_core.specs.declared.params.Params.{Params}
@@ -7,8 +7,7 @@ use Rattle.break_lines.specs.declared.group.ActiveGroup.{ActiveGroup}
 use Rattle.break_lines.specs.Problems.{Problem, max_places}
 use Rattle.break_lines.specs.declared.state.BreakState.{BreakState}
 use Rattle.break_lines.specs.declared.state.LineCost.{LineCost}
-use Rattle.break_lines.specs.Orders.{NotAfter}
-use Rattle.break_lines.specs.Tables.{Entry, slots, compared_numbers, IsTable, IsRow, offer}
+use Rattle.break_lines.specs.Tables.{Entry, slots, IsTable, IsRow, offer}
 use Rattle.break_lines.specs.Private.Live.{IsGroup}
 use Rattle.break_lines.specs.Private.Parts.{problem_without}
 use Rattle.break_lines.specs.Chosen.{AdmitsNone}
@@ -120,48 +119,9 @@ live_of lives = drop lives.first lives.list.items
 abbrev pub AreOver : Facts → Params → (b : ℕ) → List Live → Type 0
 AreOver facts params b lives = (k : ℕ) (live : Live) → slice_get lives k ≡ Some live → live.over ≡ over_before facts params live.group.place b
 
--- A group has an entry for the lines and the class of this entry that is as good or better.
-pub record HasMeeting (table : List Entry) (by : ActiveGroup) (e : Entry) : Type 0 where
-  pub index : ℕ
-  pub low : by.start ≤ index
-  pub high : index < by.end
-  pub entry : Entry
-  pub present : slice_get table index ≡ Some entry
-  pub lines : entry.end.lines ≡ e.end.lines
-  pub class : entry.end.class ≡ e.end.class
-  pub as_good : NotAfter (compared_numbers entry) (compared_numbers e)
-
--- A group has such an entry for each one of another group.
-pub record IsMetBy (table : List Entry) (group by : ActiveGroup) : Type 0 where
-  pub within : group.end ≤ length table
-  pub each : (k : ℕ) (e : Entry) → group.start ≤ k → k < group.end → slice_get table k ≡ Some e → HasMeeting table by e
-
--- The totals of an entry are at most those of another one.
-abbrev pub AreAtMost : Entry → Entry → Type 0
-AreAtMost a b = (a.overhang <ℤ b.overhang) ⊎ ((a.overhang ≡ b.overhang) × (a.demerits ≤ℤ b.demerits))
-
--- A group has an entry for the lines and the class of this entry whose totals are at most as great.
-pub record HasCover (table : List Entry) (by : ActiveGroup) (e : Entry) : Type 0 where
-  pub index : ℕ
-  pub low : by.start ≤ index
-  pub high : index < by.end
-  pub entry : Entry
-  pub present : slice_get table index ≡ Some entry
-  pub lines : entry.end.lines ≡ e.end.lines
-  pub class : entry.end.class ≡ e.end.class
-  pub at_most : AreAtMost entry e
-
--- A group has such an entry for each one of another group.
-pub record IsCoveredBy (table : List Entry) (group by : ActiveGroup) : Type 0 where
-  pub within : group.end ≤ length table
-  pub each : (k : ℕ) (e : Entry) → group.start ≤ k → k < group.end → slice_get table k ≡ Some e → HasCover table by e
-
--- The offers of a live group are the best ones of its entries, if no lines are counted, and the groups that are stored with it
--- are one that it meets and one that covers it.
+-- The offers of a live group are the best ones of its entries, if no lines are counted.
 abbrev pub HasBest : (table : List Entry) → Params → Live → Type 0
-HasBest table params live =
-    (params.first_lines ≡ 0 → AreBestFor table params live.group.start live.group.end live.best) × IsMetBy table live.meets live.group
-    × IsCoveredBy table live.group live.covered_by
+HasBest table params live = params.first_lines ≡ 0 → AreBestFor table params live.group.start live.group.end live.best
 
 -- Each live group has the right offers.
 abbrev pub HaveBest : (table : List Entry) → Params → List Live → Type 0

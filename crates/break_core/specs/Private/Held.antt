@@ -14,8 +14,8 @@ use Rattle.break_lines.specs.Problems.{Problem}
 use Rattle.break_lines.specs.Ways.{last_forced_below}
 use Rattle.break_lines.specs.Tables.{Entry, compared_numbers, IsOffered, IsRow}
 use Rattle.break_core.specs.declared.counted.HeldLine.{HeldLine}
-use Rattle.break_core.specs.declared.active_list.Live.{Live}
-use Rattle.break_core.specs.Private.Active.{IsCoveredBy}
+use Rattle.break_core.specs.declared.neighbours.Neighbours.{Neighbours}
+use Rattle.break_core.specs.Private.Near.{IsCoveredBy}
 use Rattle.break_core.specs.Private.Filling.{CanOffer, IsOfferingUnless}
 
 -- The offers by a line that is held back are met by those by the next line, whose group meets this group.
@@ -58,11 +58,11 @@ held_beyond (Some held) last = Some (record { group = held.group; left_out = hel
 
 -- The step to the next line: the line that was held back is passed over, or the next one is dropped, or the entries are offered.
 abbrev pub IsHolding :
-    (table : List Entry) → Params → Bound → (place : ℕ) → (penalty : ℤ) → Live → (next : HeldLine) → (held now : Option HeldLine)
+    (table : List Entry) → Params → Bound → (place : ℕ) → (penalty : ℤ) → Neighbours → (next : HeldLine) → (held now : Option HeldLine)
     → (old new : List (Option Entry)) → Type 0
-IsHolding table params bound place penalty live next held now old new =
-    (IsSkipped held next live.meets × (now ≡ Some next) × (new ≡ old))
-    ⊎ ((IsDropped params bound penalty held next live.covered_by × (now ≡ held_beyond held next.group) × (new ≡ old))
+IsHolding table params bound place penalty near next held now old new =
+    (IsSkipped held next near.meets × (now ≡ Some next) × (new ≡ old))
+    ⊎ ((IsDropped params bound penalty held next near.covered_by × (now ≡ held_beyond held next.group) × (new ≡ old))
     ⊎ ((now ≡ Some next) × IsHeldOffered table params bound place penalty held old new))
 
 -- One of the entries `from` to `to` has an offer for the state of this one that is as good or better.

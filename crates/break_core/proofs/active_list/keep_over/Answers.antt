@@ -7,6 +7,6 @@ use Rattle.break_core.proofs.active_list.keep_over.Goals as goal
 
 pub returns-else-overfull : goal.returns-else-overfull
 returns-else-overfull c = λ live at.
-    let kept : Live = record { group = live.group; over = kept_over live.over c.args.overfull c.args.width; best = live.best; meets = live.meets; covered_by = live.covered_by } in
+    let kept : Live = record { group = live.group; over = kept_over live.over c.args.overfull c.args.width; best = live.best } in
     sym (set-get_same c.args.lives.now.items c.args.index kept
-    (at ∙ ap (λ o. Some (record { group = live.group; over = o; best = live.best; meets = live.meets; covered_by = live.covered_by })) (sym (same_over live.over c.args.overfull c.args.width c.if-overfull.false))))
+    (at ∙ ap (λ o. Some (record { group = live.group; over = o; best = live.best })) (sym (same_over live.over c.args.overfull c.args.width c.if-overfull.false))))

@@ -69,7 +69,7 @@ keep_group-kept-requires g c =
     let within : c.loop-index.index < length items = omega (arith, c.loop-index-test.true, c.len-end.ensures, c.loop-index.invariant.count) in
     let at_index = slice_get_read items (length items) c.loop-index.index live refl within c.index-live.ensures in
     let kept : Live =
-    record { group = live.group; over = kept_over live.over overfull (to_z w64 (of_z w64 c.least_width-width.result)); best = live.best; meets = live.meets; covered_by = live.covered_by } in
+    record { group = live.group; over = kept_over live.over overfull (to_z w64 (of_z w64 c.least_width-width.result)); best = live.best } in
     record {
       first_bounded = c.loop-index.invariant.first_bounded;
       kept_bounded = c.loop-index.invariant.kept_bounded;
@@ -154,7 +154,7 @@ loop-index-preserved g c =
     let items = c.loop-index.lives.list.items in
     let at_index = slice_get_read items (length items) index live refl within c.index-live.ensures in
     let next_over = kept_over live.over overfull width in
-    let kept : Live = record { group = group; over = next_over; best = live.best; meets = live.meets; covered_by = live.covered_by } in
+    let kept : Live = record { group = group; over = next_over; best = live.best } in
     let marked : c.keep_over.new.lives.items ≡ set items index kept = c.keep_over.ensures live at_index in
     let present : slice_get c.keep_over.new.lives.items index ≡ Some kept =
     ap (λ xs. slice_get xs index) marked ∙ get-set_same items index kept live at_index in
@@ -165,6 +165,7 @@ loop-index-preserved g c =
     ap (take c.loop-index.kept) marked ∙ take-set-le c.loop-index.kept items index kept inv.kept_bounded in
     let made : new ≡ cond c.stops_after-stopped.result old (old ++ kept ∷ []) =
     c.keep_group-kept.ensures.front kept present ∙ ap (λ xs. cond c.stops_after-stopped.result (drop passed xs) (drop passed xs ++ kept ∷ [])) same_front in
+    let near = c.neighbours_of-near.ensures.known table next.group.within c.requires.known in
     let held_line : HeldLine = record { group = group; left_out = c.leaves_out-left_out.result; line = line; last = group } in
     record {
       facts = c.try_line-sums.ensures.facts ∙ inv.facts;
@@ -182,9 +183,9 @@ loop-index-preserved g c =
           (g.M.Meter.trials c.try_line-sums.new.self) inv.fresh next.later c.try_line-sums.ensures.others;
       live = both.1;
       earlier = earlier_next p stop table c.args.at.now.place inv.at inv.low group c.requires.last next inv.earlier;
-      row = held_next p stop params bound table c.args.at.now.place inv.at inv.low c.args.at.now.penalty c.loop-index.held c.hold_next-now.new.held held_line live
+      row = held_next p stop params bound table c.args.at.now.place inv.at inv.low c.args.at.now.penalty c.loop-index.held c.hold_next-now.new.held held_line c.neighbours_of-near.result
           c.loop-index.row.counted.items c.hold_next-now.new.row.items refl c.requires.last c.requires.places c.requires.penalty_bounded next inv.earlier
-          refl refl best.1 best.2 (group_of p table c.args.at.now.place group c.requires.filled.is_table next.group) c.fit_both-line.ensures.fit_bounded tried inv.row
+          refl c.neighbours_of-near.ensures.group near.0 near.1 (group_of p table c.args.at.now.place group c.requires.filled.is_table next.group) c.fit_both-line.ensures.fit_bounded tried inv.row
           c.hold_next-now.ensures.row;
       begun = omega (arith, inv.begun);
       first_bounded = c.keep_group-kept.ensures.first_bounded;

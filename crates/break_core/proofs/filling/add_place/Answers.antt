@@ -3,10 +3,12 @@ use Rattle.break_lines.specs.declared.group.ActiveGroup.{ActiveGroup}
 use Rattle.break_lines.specs.Tables.{slots, IsRow, row_entries}
 use Rattle.break_lines.specs.Legal.{is_forced}
 use Rattle.break_core.specs.Private.Active.{stops_at, problem_leaving_out, groups_of, live_of, with_group, with_live, HasBest, HaveBest, IsActive, IsFilled}
+use Rattle.break_core.specs.Private.Near.{HaveNeighbours}
 use Rattle.break_core.specs.Private.Offers.{row_at, AreOffers, IsEmpty}
 use Rattle.break_core.proofs.Active.{filled_more, filled_none}
 use Rattle.break_core.proofs.Lives.{groups_put, over_put, best_put}
 use Rattle.break_core.proofs.BestEntries.{best_longer}
+use Rattle.break_core.proofs.Near.{near_longer}
 use Rattle.break_core.proofs.Offers.{row_none, same_empty}
 use Rattle.break_core.proofs.filling.add_place.Goals as goal
 
@@ -87,7 +89,7 @@ returns-clause-best g c =
     subst (λ t. HaveBest t params lives) (sym held)
     (best_longer table (row_entries row) params lives (subst (λ t. HaveBest t params lives) c.deref.ensures.value c.try_each_line-offered.ensures.best)) in
     let is : live.group.start < live.group.end → HasBest c.move_row.new.table.items params live =
-    λ some. subst (λ t. HasBest t params live) c.deref-2.ensures.value (c.in_ok-add_entries.ensures.groups.3 (omega (arith, some, start, end))) in
+    λ some. subst (λ t. HasBest t params live) c.deref-4.ensures.value (c.in_ok-add_entries.ensures.groups.3 (omega (arith, some, start, end))) in
     best_put c.move_row.new.table.items params c.is_forced-forced.result lives new live before rises is c.in_ok-add_entries.ensures.groups.4
 
 pub returns-then-is_passed_over-clause-filled : goal.returns-then-is_passed_over-clause-filled
@@ -122,3 +124,21 @@ returns-then-is_passed_over-clause-empty g c =
     let passed = c.is_passed_over.ensures c.if-is_passed_over.true in
     same_empty c.args.rules.now.params.now.first_lines c.args.row.now c.try_each_line-offered.new.row (c.try_each_line-offered.ensures.untouched passed.0)
     c.requires.empty
+
+pub try_each_line-offered-requires-clause-known : goal.try_each_line-offered-requires-clause-known
+try_each_line-offered-requires-clause-known g c =
+    subst (λ t. HaveNeighbours t c.deref-2.result.now) (sym c.deref.ensures.value)
+    (subst (HaveNeighbours c.args.reached.now.table.items) (sym c.deref-2.ensures.value) c.requires.known)
+
+pub keep_neighbours-requires-clause-known : goal.keep_neighbours-requires-clause-known
+keep_neighbours-requires-clause-known g c =
+    let table = c.args.reached.now.table.items in
+    let list = c.args.reached.now.neighbours.items in
+    let row = row_at c.args.rules.now.params.now.first_lines table c.args.place c.try_each_line-offered.new.row in
+    let held : c.move_row.new.table.items ≡ table ++ row_entries row =
+    subst (λ n. c.move_row.new.table.items ≡ table ++ row_entries (row_at n table c.args.place c.try_each_line-offered.new.row)) c.get.ensures.value
+    c.in_ok-move_row.ensures.table in
+    subst (λ t. HaveNeighbours t list) (sym (c.deref-3.ensures.value ∙ held)) (near_longer table (row_entries row) list c.requires.known)
+
+pub returns-clause-known : goal.returns-clause-known
+returns-clause-known g c = subst (λ t. HaveNeighbours t c.keep_neighbours.new.list.items) c.deref-3.ensures.value c.in_ok-keep_neighbours.ensures

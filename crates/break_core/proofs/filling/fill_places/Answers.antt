@@ -2,6 +2,7 @@ use Rattle.std.proofs.Common.{◌≡◌, ◌∙◌, ◌+◌, ℕ, [], ◌∷◌,
 use Rattle.break_lines.specs.Tables.{first_entry, IsTable}
 use Rattle.break_lines.specs.declared.group.ActiveGroup.{ActiveGroup}
 use Rattle.break_core.specs.Private.Active.{stops_at, problem_leaving_out, groups_of, live_of, AreOver, HasBest, IsFilled, IsSwept}
+use Rattle.break_core.specs.Private.Near.{HaveNeighbours}
 use Rattle.break_core.specs.Private.Offers.{IsEmpty}
 use Rattle.break_core.proofs.Active.{table_rest}
 use Rattle.break_core.proofs.Counts.{counted_none, counted_more, counted_longer, kept_none, kept_on, started_more, started_none, start_group}
@@ -18,6 +19,7 @@ loop-before-init g c =
     let group : live.group ≡ start_group = c.new_live-live.ensures.group in
     let table : c.push.new.self.items ≡ first_entry ∷ [] = search rules in
     let lives : c.push-2.new.self.items ≡ live ∷ [] = search rules in
+    let near : c.new.result.items ≡ [] = search rules in
     let best : HasBest c.push.new.self.items params live = subst (λ t. HasBest t params live) c.deref.ensures.value c.new_live-live.ensures.best in
     record {
       facts = refl;
@@ -26,6 +28,7 @@ loop-before-init g c =
           (ap (λ (x : ActiveGroup). x.place) group) (ap (λ (x : ActiveGroup). x.start) group) (ap (λ (x : ActiveGroup). x.end) group);
       over = subst (AreOver f params 1) (sym lives) (over_first f params live (ap (λ (x : ActiveGroup). x.place) group) c.new_live-live.ensures.over);
       first_bounded = omega arith;
+      known = subst (HaveNeighbours c.push.new.self.items) (sym near) (λ k x there. absurd (cc));
       best = best_kept c.push.new.self.items params false [] c.push-2.new.self.items live (λ k x there. absurd (cc)) best lives;
       kept = kept_none (g.M.Meter.trials c.args.meter.now);
       begins = λ _. ap groups_of lives ∙ ap (λ (x : ActiveGroup). x ∷ []) group;
@@ -52,6 +55,7 @@ loop-before-preserved g c =
           (groups_of (live_of c.add_place.new.reached.live))) inv.facts next.filled;
       over = subst (λ f. AreOver f params (before + 1 + 1) (live_of c.add_place.new.reached.live)) inv.facts next.over;
       best = next.best;
+      known = next.known;
       first_bounded = next.first_bounded;
       kept = kept_on first middle now inv.kept c.add_place.ensures.kept;
       begins = λ none. absurd (omega (arith, none));

@@ -77,7 +77,7 @@ index-requires g c =
     let items = c.loop-waits.lives.list.items in
     let overfull = c.is_overfull-overfull.result in
     let at_index = slice_get_read items (length items) index live refl within c.index-live.ensures in
-    let kept : Live = record { group = live.group; over = kept_over live.over overfull (least_width c.judge-line.result.sums); best = live.best; meets = live.meets; covered_by = live.covered_by } in
+    let kept : Live = record { group = live.group; over = kept_over live.over overfull (least_width c.judge-line.result.sums); best = live.best } in
     let marked : c.keep_over_after.new.lives.items ≡ set items index kept = c.keep_over_after.ensures live at_index in
     let present : slice_get c.keep_over_after.new.lives.items index ≡ Some kept =
     ap (λ xs. slice_get xs index) marked ∙ get-set_same items index kept live at_index in
@@ -102,7 +102,7 @@ offer_line-now-requires g c =
     let items = c.loop-waits.lives.list.items in
     let overfull = c.is_overfull-overfull.result in
     let at_index = slice_get_read items (length items) index live refl within c.index-live.ensures in
-    let kept : Live = record { group = live.group; over = kept_over live.over overfull (least_width c.judge-line.result.sums); best = live.best; meets = live.meets; covered_by = live.covered_by } in
+    let kept : Live = record { group = live.group; over = kept_over live.over overfull (least_width c.judge-line.result.sums); best = live.best } in
     let marked : c.keep_over_after.new.lives.items ≡ set items index kept = c.keep_over_after.ensures live at_index in
     let present : slice_get c.keep_over_after.new.lives.items index ≡ Some kept =
     ap (λ xs. slice_get xs index) marked ∙ get-set_same items index kept live at_index in
@@ -115,7 +115,7 @@ offer_line-now-requires g c =
     let penalty = c.args.at.now.penalty in
     let row = row_at params.first_lines table place c.loop-waits.row in
     record {
-      kind = c.requires.uncounted;
+      uncounted = c.requires.uncounted;
       can = subst (λ (x : Live). CanOffer params.first_lines row table x.group place penalty) same_live
           (record {
             wide = inv.wide;
@@ -145,7 +145,7 @@ keep_group-kept-requires g c =
     let within : c.loop-waits.index < length items = omega (arith, (c.has_next.ensures.next c.loop-waits-test.true), c.loop-waits.invariant.end_is, c.loop-waits.invariant.count) in
     let at_index = slice_get_read items (length items) c.loop-waits.index live refl within c.index-live.ensures in
     let kept : Live =
-    record { group = live.group; over = kept_over live.over overfull (least_width c.judge-line.result.sums); best = live.best; meets = live.meets; covered_by = live.covered_by } in
+    record { group = live.group; over = kept_over live.over overfull (least_width c.judge-line.result.sums); best = live.best } in
     record {
       first_bounded = c.loop-waits.invariant.first_bounded;
       kept_bounded = c.loop-waits.invariant.kept_bounded;
@@ -273,7 +273,7 @@ loop-waits-preserved g c =
     let items = c.loop-waits.lives.list.items in
     let at_index = slice_get_read items (length items) index live refl within c.index-live.ensures in
     let next_over = kept_over live.over overfull width in
-    let kept : Live = record { group = group; over = next_over; best = live.best; meets = live.meets; covered_by = live.covered_by } in
+    let kept : Live = record { group = group; over = next_over; best = live.best } in
     let marked : c.keep_over_after.new.lives.items ≡ set items index kept = c.keep_over_after.ensures live at_index in
     let present : slice_get c.keep_over_after.new.lives.items index ≡ Some kept =
     ap (λ xs. slice_get xs index) marked ∙ get-set_same items index kept live at_index in
@@ -326,7 +326,7 @@ loop-waits-preserved g c =
       best = best_kept table params c.stops_after_overfull-stopped.result old new kept inv.best (c.requires.best (index - first) live there) made;
       index_bounded = omega (arith, c.has_next.ensures.next c.loop-waits-test.true);
       waits = λ is. later_loosest f h params bound group.place c.args.at.now.place sums (c.requires.waits (c.all_wait-waits.ensures.waits is))
-          next.group.earlier c.requires.last is_sums inv.facts (c.all_wait-waits.ensures.uncounted is) (c.all_wait-waits.ensures.loosest is);
+          next.group.earlier c.requires.last is_sums inv.facts c.requires.uncounted (c.all_wait-waits.ensures.loosest is);
       begins = λ _. omega (arith, inv.begun);
       end_is = inv.end_is;
       untouched = λ none.

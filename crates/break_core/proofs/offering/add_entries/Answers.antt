@@ -8,7 +8,7 @@ use Rattle.break_core.proofs.offering.add_entries.Goals as goal
 pub returns-then-group-clause-groups : goal.returns-then-group-clause-groups
 returns-then-group-clause-groups g c =
     let group = c.args.group in
-    let live : Live = record { group = group; over = None; best = []; meets = group; covered_by = group } in
+    let live : Live = record { group = group; over = None; best = [] } in
     let lives : List Live = cond c.args.forced [] (live_of c.args.lives.now) in
     let none : group.start ≡ group.end = omega arith in (
       live,

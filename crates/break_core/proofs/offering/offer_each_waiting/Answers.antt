@@ -28,7 +28,7 @@ offer_best-requires-clause-entries c =
 pub offer_best-requires-clause-best : goal.offer_best-requires-clause-best
 offer_best-requires-clause-best c =
     let within : c.loop-index.index < length c.args.lives.now = search rules in
-    (c.requires.can.best c.loop-index.index _ (slice_get-get_or c.args.lives.now c.loop-index.index _ within)).0
+    c.requires.can.best c.loop-index.index _ (slice_get-get_or c.args.lives.now c.loop-index.index _ within)
     (c.requires.can.uncounted (omega (arith, within)))
 
 pub offer_best-requires-clause-held : goal.offer_best-requires-clause-held

@@ -1,8 +1,8 @@
 use Rattle.std.proofs.Common.{◌≡◌, ◌≤◌, ◌<◌, ℕ}
 use Rattle.std.specs.Prelude.{slice_get, Some}
 use Rattle.break_lines.specs.Tables.{Entry}
-use Rattle.break_core.specs.Private.Active.{HasMeeting}
-use Rattle.break_core.proofs.offering.is_met.Given as goal
+use Rattle.break_core.specs.Private.Near.{HasMeeting}
+use Rattle.break_core.proofs.neighbours.is_met.Given as goal
 
 abbrev pub invariant-loop-index : goal.invariant-loop-index
 invariant-loop-index l = record {

@@ -5,8 +5,8 @@ use Rattle.std.proofs.lemmas.Bool.{cases_lt}
 use Rattle.std.proofs.lemmas.Option.{same_Some, slice_get_read}
 use Rattle.break_lines.specs.declared.state.BreakState.{BreakState}
 use Rattle.break_lines.specs.Tables.{Entry}
-use Rattle.break_core.specs.Private.Active.{HasCover}
-use Rattle.break_core.proofs.offering.is_covered.Goals as goal
+use Rattle.break_core.specs.Private.Near.{HasCover}
+use Rattle.break_core.proofs.neighbours.is_covered.Goals as goal
 
 pub loop-index-init : goal.loop-index-init
 loop-index-init c = record { low = omega arith; met = λ k e from to there. absurd (omega (arith, from, to)) }

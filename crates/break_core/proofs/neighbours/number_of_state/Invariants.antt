@@ -1,5 +1,5 @@
 use Rattle.std.proofs.Common.{◌-◌, ◌≤◌}
-use Rattle.break_core.proofs.offering.number_of_state.Given as goal
+use Rattle.break_core.proofs.neighbours.number_of_state.Given as goal
 
 abbrev pub invariant-loop-index : goal.invariant-loop-index
 invariant-loop-index l = l.fn.from ≤ l.index
