@@ -54,41 +54,36 @@ fn has_next(index: usize, end: usize, waits: bool) -> bool
 /// them cost the same as the loosest line. The groups stay in place, since most of them are kept. Returns whether entries were offered. The function
 /// is not inlined, so that its loop has all registers.
 #[inline(never)]
-fn try_lines<M: Meter>(
-    meter: &mut M,
-    at: &TriedPlace,
-    lives: &mut LiveGroups,
-    row: &mut Row,
-) -> bool
-    requires uncounted { at.now.rules.now.params.now.first_lines ≡ 0 }
-    requires first { 0 < at.now.place }
-    requires last { at.now.place ≤ (M.facts meter.old).places }
-    requires places { at.now.place ≤ max_places }
-    requires penalty { at.now.penalty ≡ (M.facts meter.old).penalty at.now.place }
-    requires penalty_bounded { at.now.penalty <ℤ pos 10000 }
-    requires filled { IsFilled (problem_leaving_out (M.facts meter.old) at.now.rules.now.params.now at.now.rules.now.bound at.now.rules.now.stop_rule)
-        (stops_at (M.facts meter.old) at.now.rules.now.params.now at.now.rules.now.stop_rule) at.now.place at.now.table.now
+fn try_lines<M: Meter>(meter: &mut M, at: TriedPlace, lives: &mut LiveGroups, row: &mut Row) -> bool
+    requires uncounted { at.rules.now.params.now.first_lines ≡ 0 }
+    requires first { 0 < at.place }
+    requires last { at.place ≤ (M.facts meter.old).places }
+    requires places { at.place ≤ max_places }
+    requires penalty { at.penalty ≡ (M.facts meter.old).penalty at.place }
+    requires penalty_bounded { at.penalty <ℤ pos 10000 }
+    requires filled { IsFilled (problem_leaving_out (M.facts meter.old) at.rules.now.params.now at.rules.now.bound at.rules.now.stop_rule)
+        (stops_at (M.facts meter.old) at.rules.now.params.now at.rules.now.stop_rule) at.place at.table.now
         (groups_of (live_of lives.old)) }
-    requires over { AreOver (M.facts meter.old) at.now.rules.now.params.now at.now.place (live_of lives.old) }
-    requires best { HaveBest at.now.table.now at.now.rules.now.params.now (live_of lives.old) }
+    requires over { AreOver (M.facts meter.old) at.rules.now.params.now at.place (live_of lives.old) }
+    requires best { HaveBest at.table.now at.rules.now.params.now (live_of lives.old) }
     requires first_bounded { lives.old.first ≤ length lives.old.list.items }
-    requires empty { IsEmpty at.now.rules.now.params.now.first_lines row.old }
-    requires may { MayStop at.now.rules.now.stop_rule (M.facts meter.old) at.now.rules.now.params.now at.now.rules.now.bound }
-    requires waits { at.now.rules.now.waits ≡ true → IsEven (M.facts meter.old) }
+    requires empty { IsEmpty at.rules.now.params.now.first_lines row.old }
+    requires may { MayStop at.rules.now.stop_rule (M.facts meter.old) at.rules.now.params.now at.rules.now.bound }
+    requires waits { at.rules.now.waits ≡ true → IsEven (M.facts meter.old) }
     requires trials_bounded { CountsMayGrow 1 (M.trials meter.old) }
-    ensures row { IsRow (problem_leaving_out (M.facts meter.old) at.now.rules.now.params.now at.now.rules.now.bound at.now.rules.now.stop_rule)
-        at.now.table.now at.now.place (length at.now.table.now)
-        (row_at at.now.rules.now.params.now.first_lines at.now.table.now at.now.place row.new) }
-    ensures held { at.now.rules.now.params.now.first_lines ≡ 0 → AreOffers at.now.table.now at.now.place row.new.offers }
-    ensures live { is_forced ((M.facts meter.old).penalty at.now.place) ≡ false →
-        IsActive (problem_leaving_out (M.facts meter.old) at.now.rules.now.params.now at.now.rules.now.bound at.now.rules.now.stop_rule)
-        (stops_at (M.facts meter.old) at.now.rules.now.params.now at.now.rules.now.stop_rule) at.now.table.now (at.now.place + 1) at.now.place 0 0
+    ensures row { IsRow (problem_leaving_out (M.facts meter.old) at.entry.rules.now.params.now at.entry.rules.now.bound at.entry.rules.now.stop_rule)
+        at.entry.table.now at.entry.place (length at.entry.table.now)
+        (row_at at.entry.rules.now.params.now.first_lines at.entry.table.now at.entry.place row.new) }
+    ensures held { at.entry.rules.now.params.now.first_lines ≡ 0 → AreOffers at.entry.table.now at.entry.place row.new.offers }
+    ensures live { is_forced ((M.facts meter.old).penalty at.entry.place) ≡ false →
+        IsActive (problem_leaving_out (M.facts meter.old) at.entry.rules.now.params.now at.entry.rules.now.bound at.entry.rules.now.stop_rule)
+        (stops_at (M.facts meter.old) at.entry.rules.now.params.now at.entry.rules.now.stop_rule) at.entry.table.now (at.entry.place + 1) at.entry.place 0 0
         (groups_of (live_of lives.new)) }
-    ensures over { AreOver (M.facts meter.old) at.now.rules.now.params.now (at.now.place + 1) (live_of lives.new) }
-    ensures best { HaveBest at.now.table.now at.now.rules.now.params.now (live_of lives.new) }
+    ensures over { AreOver (M.facts meter.old) at.entry.rules.now.params.now (at.entry.place + 1) (live_of lives.new) }
+    ensures best { HaveBest at.entry.table.now at.entry.rules.now.params.now (live_of lives.new) }
     ensures first_bounded { lives.new.first ≤ length lives.new.list.items }
     ensures facts { M.facts meter.new ≡ M.facts meter.old }
-    ensures trials { IsSwept (stops_at (M.facts meter.old) at.now.rules.now.params.now at.now.rules.now.stop_rule) at.now.place
+    ensures trials { IsSwept (stops_at (M.facts meter.old) at.entry.rules.now.params.now at.entry.rules.now.stop_rule) at.entry.place
         (M.trials meter.old) (M.trials meter.new) }
     ensures kept { TrialsOnlyGrow (M.trials meter.old) (M.trials meter.new) }
     ensures tried { WasTried (groups_of (live_of lives.old)) (M.trials meter.old) (M.trials meter.new) }
@@ -111,13 +106,13 @@ fn try_lines<M: Meter>(
             .leaves_out_overfull(live.over, overfull, &line.sums);
         let stopped = rules.stop_rule.stops_after_overfull(overfull, left_out);
         keep_over_after(&mut lives.list, index, overfull, &line.sums);
-        let now = offer_line(left_out, row, at, &lives.list[index], &line);
+        let now = offer_line(left_out, row, &at, &lives.list[index], &line);
         offered = either(offered, now);
         kept = keep_group(lives, stopped, kept, index);
         index += 1;
         waits = all_wait(&line, rules);
     }
-    let waiting = offer_waiting(row, at, rest_of(&lives.list, index));
+    let waiting = offer_waiting(row, &at, rest_of(&lives.list, index));
     remove_groups(&mut lives.list, kept, index);
     either(offered, waiting)
 }
@@ -126,48 +121,48 @@ fn try_lines<M: Meter>(
 #[inline(always)]
 fn try_each_line<M: Meter, const COUNTED: bool>(
     meter: &mut M,
-    at: &TriedPlace,
+    at: TriedPlace,
     lives: &mut LiveGroups,
     neighbours: &[Neighbours],
     row: &mut Row,
 ) -> bool
-    requires kind { IsKind COUNTED at.now.rules.now.params.now.first_lines }
-    requires first { 0 < at.now.place }
-    requires last { at.now.place ≤ (M.facts meter.old).places }
-    requires places { at.now.place ≤ max_places }
-    requires penalty { at.now.penalty ≡ (M.facts meter.old).penalty at.now.place }
-    requires penalty_bounded { at.now.penalty <ℤ pos 10000 }
-    requires filled { IsFilled (problem_leaving_out (M.facts meter.old) at.now.rules.now.params.now at.now.rules.now.bound at.now.rules.now.stop_rule)
-        (stops_at (M.facts meter.old) at.now.rules.now.params.now at.now.rules.now.stop_rule) at.now.place at.now.table.now
+    requires kind { IsKind COUNTED at.rules.now.params.now.first_lines }
+    requires first { 0 < at.place }
+    requires last { at.place ≤ (M.facts meter.old).places }
+    requires places { at.place ≤ max_places }
+    requires penalty { at.penalty ≡ (M.facts meter.old).penalty at.place }
+    requires penalty_bounded { at.penalty <ℤ pos 10000 }
+    requires filled { IsFilled (problem_leaving_out (M.facts meter.old) at.rules.now.params.now at.rules.now.bound at.rules.now.stop_rule)
+        (stops_at (M.facts meter.old) at.rules.now.params.now at.rules.now.stop_rule) at.place at.table.now
         (groups_of (live_of lives.old)) }
-    requires over { AreOver (M.facts meter.old) at.now.rules.now.params.now at.now.place (live_of lives.old) }
-    requires best { HaveBest at.now.table.now at.now.rules.now.params.now (live_of lives.old) }
-    requires known { HaveNeighbours at.now.table.now neighbours.now }
+    requires over { AreOver (M.facts meter.old) at.rules.now.params.now at.place (live_of lives.old) }
+    requires best { HaveBest at.table.now at.rules.now.params.now (live_of lives.old) }
+    requires known { HaveNeighbours at.table.now neighbours.now }
     requires first_bounded { lives.old.first ≤ length lives.old.list.items }
-    requires empty { IsEmpty at.now.rules.now.params.now.first_lines row.old }
-    requires may { MayStop at.now.rules.now.stop_rule (M.facts meter.old) at.now.rules.now.params.now at.now.rules.now.bound }
-    requires waits { at.now.rules.now.waits ≡ true → IsEven (M.facts meter.old) }
+    requires empty { IsEmpty at.rules.now.params.now.first_lines row.old }
+    requires may { MayStop at.rules.now.stop_rule (M.facts meter.old) at.rules.now.params.now at.rules.now.bound }
+    requires waits { at.rules.now.waits ≡ true → IsEven (M.facts meter.old) }
     requires trials_bounded { CountsMayGrow 1 (M.trials meter.old) }
-    ensures row { IsRow (problem_leaving_out (M.facts meter.old) at.now.rules.now.params.now at.now.rules.now.bound at.now.rules.now.stop_rule)
-        at.now.table.now at.now.place (length at.now.table.now)
-        (row_at at.now.rules.now.params.now.first_lines at.now.table.now at.now.place row.new) }
-    ensures held { at.now.rules.now.params.now.first_lines ≡ 0 → AreOffers at.now.table.now at.now.place row.new.offers }
-    ensures live { is_forced ((M.facts meter.old).penalty at.now.place) ≡ false →
-        IsActive (problem_leaving_out (M.facts meter.old) at.now.rules.now.params.now at.now.rules.now.bound at.now.rules.now.stop_rule)
-        (stops_at (M.facts meter.old) at.now.rules.now.params.now at.now.rules.now.stop_rule) at.now.table.now (at.now.place + 1) at.now.place 0 0
+    ensures row { IsRow (problem_leaving_out (M.facts meter.old) at.entry.rules.now.params.now at.entry.rules.now.bound at.entry.rules.now.stop_rule)
+        at.entry.table.now at.entry.place (length at.entry.table.now)
+        (row_at at.entry.rules.now.params.now.first_lines at.entry.table.now at.entry.place row.new) }
+    ensures held { at.entry.rules.now.params.now.first_lines ≡ 0 → AreOffers at.entry.table.now at.entry.place row.new.offers }
+    ensures live { is_forced ((M.facts meter.old).penalty at.entry.place) ≡ false →
+        IsActive (problem_leaving_out (M.facts meter.old) at.entry.rules.now.params.now at.entry.rules.now.bound at.entry.rules.now.stop_rule)
+        (stops_at (M.facts meter.old) at.entry.rules.now.params.now at.entry.rules.now.stop_rule) at.entry.table.now (at.entry.place + 1) at.entry.place 0 0
         (groups_of (live_of lives.new)) }
-    ensures over { AreOver (M.facts meter.old) at.now.rules.now.params.now (at.now.place + 1) (live_of lives.new) }
-    ensures best { HaveBest at.now.table.now at.now.rules.now.params.now (live_of lives.new) }
+    ensures over { AreOver (M.facts meter.old) at.entry.rules.now.params.now (at.entry.place + 1) (live_of lives.new) }
+    ensures best { HaveBest at.entry.table.now at.entry.rules.now.params.now (live_of lives.new) }
     ensures first_bounded { lives.new.first ≤ length lives.new.list.items }
     ensures facts { M.facts meter.new ≡ M.facts meter.old }
-    ensures trials { IsSwept (stops_at (M.facts meter.old) at.now.rules.now.params.now at.now.rules.now.stop_rule) at.now.place
+    ensures trials { IsSwept (stops_at (M.facts meter.old) at.entry.rules.now.params.now at.entry.rules.now.stop_rule) at.entry.place
         (M.trials meter.old) (M.trials meter.new) }
     ensures kept { TrialsOnlyGrow (M.trials meter.old) (M.trials meter.new) }
     ensures tried { WasTried (groups_of (live_of lives.old)) (M.trials meter.old) (M.trials meter.new) }
     ensures untouched { result ≡ false → IsSameRow row.old row.new }
 {
     if COUNTED {
-        return try_counted_lines(meter, at, lives, neighbours, row);
+        return try_counted_lines(meter, &at, lives, neighbours, row);
     }
     try_lines(meter, at, lives, row)
 }
@@ -225,7 +220,7 @@ fn add_place<M: Meter, const COUNTED: bool>(
     };
     let offered = try_each_line::<M, COUNTED>(
         meter,
-        &at,
+        at,
         &mut reached.live,
         &reached.neighbours,
         row,

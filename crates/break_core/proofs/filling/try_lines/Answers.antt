@@ -31,48 +31,48 @@ ended_by index end (inr some) is known = inr (known some)
 pub try_line-sums-requires-clause-later : goal.try_line-sums-requires-clause-later
 try_line-sums-requires-clause-later g c =
     let inv = c.loop-waits.invariant in
-    let rules_now = c.args.at.now.rules.now in
+    let rules_now = c.args.at.rules.now in
     let f = g.M.Meter.facts c.args.meter.now in
-    let table = c.args.at.now.table.now in
+    let table = c.args.at.table.now in
     let lives = c.args.lives.now.list.items in
     let index = c.loop-waits.index in
     let live = c.index-live.result.now in
     let within : index < length c.loop-waits.lives.list.items = omega (arith, (c.has_next.ensures.next c.loop-waits-test.true), inv.end_is, inv.count) in
     let here : slice_get lives index ≡ Some live =
     sym (inv.rest index (omega arith)) ∙ slice_get_read c.loop-waits.lives.list.items (length c.loop-waits.lives.list.items) index live refl within c.index-live.ensures in
-    let both = next_live f rules_now.params.now rules_now.bound rules_now.stop_rule table c.args.at.now.place inv.at inv.low lives index live here inv.live in
+    let both = next_live f rules_now.params.now rules_now.bound rules_now.stop_rule table c.args.at.place inv.at inv.low lives index live here inv.live in
     let next = both.0 in
     next.group.earlier
 
 pub try_line-sums-requires-clause-trials_bounded : goal.try_line-sums-requires-clause-trials_bounded
 try_line-sums-requires-clause-trials_bounded g c =
     let inv = c.loop-waits.invariant in
-    let rules_now = c.args.at.now.rules.now in
+    let rules_now = c.args.at.rules.now in
     let f = g.M.Meter.facts c.args.meter.now in
-    let table = c.args.at.now.table.now in
+    let table = c.args.at.table.now in
     let lives = c.args.lives.now.list.items in
     let index = c.loop-waits.index in
     let live = c.index-live.result.now in
     let within : index < length c.loop-waits.lives.list.items = omega (arith, (c.has_next.ensures.next c.loop-waits-test.true), inv.end_is, inv.count) in
     let here : slice_get lives index ≡ Some live =
     sym (inv.rest index (omega arith)) ∙ slice_get_read c.loop-waits.lives.list.items (length c.loop-waits.lives.list.items) index live refl within c.index-live.ensures in
-    let both = next_live f rules_now.params.now rules_now.bound rules_now.stop_rule table c.args.at.now.place inv.at inv.low lives index live here inv.live in
+    let both = next_live f rules_now.params.now rules_now.bound rules_now.stop_rule table c.args.at.place inv.at inv.low lives index live here inv.live in
     let next = both.0 in
     omega (arith, c.requires.trials_bounded live.group.place, inv.fresh live.group.place next.later)
 
 pub index-requires : goal.index-requires
 index-requires g c =
     let inv = c.loop-waits.invariant in
-    let rules_now = c.args.at.now.rules.now in
+    let rules_now = c.args.at.rules.now in
     let f = g.M.Meter.facts c.args.meter.now in
-    let table = c.args.at.now.table.now in
+    let table = c.args.at.table.now in
     let lives = c.args.lives.now.list.items in
     let index = c.loop-waits.index in
     let live = c.index-live.result.now in
     let within : index < length c.loop-waits.lives.list.items = omega (arith, (c.has_next.ensures.next c.loop-waits-test.true), inv.end_is, inv.count) in
     let here : slice_get lives index ≡ Some live =
     sym (inv.rest index (omega arith)) ∙ slice_get_read c.loop-waits.lives.list.items (length c.loop-waits.lives.list.items) index live refl within c.index-live.ensures in
-    let both = next_live f rules_now.params.now rules_now.bound rules_now.stop_rule table c.args.at.now.place inv.at inv.low lives index live here inv.live in
+    let both = next_live f rules_now.params.now rules_now.bound rules_now.stop_rule table c.args.at.place inv.at inv.low lives index live here inv.live in
     let next = both.0 in
     let items = c.loop-waits.lives.list.items in
     let overfull = c.is_overfull-overfull.result in
@@ -88,16 +88,16 @@ index-requires g c =
 pub offer_line-now-requires : goal.offer_line-now-requires
 offer_line-now-requires g c =
     let inv = c.loop-waits.invariant in
-    let rules_now = c.args.at.now.rules.now in
+    let rules_now = c.args.at.rules.now in
     let f = g.M.Meter.facts c.args.meter.now in
-    let table = c.args.at.now.table.now in
+    let table = c.args.at.table.now in
     let lives = c.args.lives.now.list.items in
     let index = c.loop-waits.index in
     let live = c.index-live.result.now in
     let within : index < length c.loop-waits.lives.list.items = omega (arith, (c.has_next.ensures.next c.loop-waits-test.true), inv.end_is, inv.count) in
     let here : slice_get lives index ≡ Some live =
     sym (inv.rest index (omega arith)) ∙ slice_get_read c.loop-waits.lives.list.items (length c.loop-waits.lives.list.items) index live refl within c.index-live.ensures in
-    let both = next_live f rules_now.params.now rules_now.bound rules_now.stop_rule table c.args.at.now.place inv.at inv.low lives index live here inv.live in
+    let both = next_live f rules_now.params.now rules_now.bound rules_now.stop_rule table c.args.at.place inv.at inv.low lives index live here inv.live in
     let next = both.0 in
     let items = c.loop-waits.lives.list.items in
     let overfull = c.is_overfull-overfull.result in
@@ -111,8 +111,8 @@ offer_line-now-requires g c =
     let same_live : kept ≡ found =
     same_Some kept found (sym present ∙ slice_get_read c.keep_over_after.new.lives.items (length c.keep_over_after.new.lives.items) index found refl inside c.index.ensures) in
     let params = rules_now.params.now in
-    let place = c.args.at.now.place in
-    let penalty = c.args.at.now.penalty in
+    let place = c.args.at.place in
+    let penalty = c.args.at.penalty in
     let row = row_at params.first_lines table place c.loop-waits.row in
     record {
       uncounted = c.requires.uncounted;
@@ -155,16 +155,16 @@ keep_group-kept-requires g c =
 pub leaves_out_overfull-left_out-requires-clause-overfull : goal.leaves_out_overfull-left_out-requires-clause-overfull
 leaves_out_overfull-left_out-requires-clause-overfull g c = λ fits.
     let inv = c.loop-waits.invariant in
-    let rules_now = c.args.at.now.rules.now in
+    let rules_now = c.args.at.rules.now in
     let f = g.M.Meter.facts c.args.meter.now in
-    let table = c.args.at.now.table.now in
+    let table = c.args.at.table.now in
     let lives = c.args.lives.now.list.items in
     let index = c.loop-waits.index in
     let live = c.index-live.result.now in
     let within : index < length c.loop-waits.lives.list.items = omega (arith, (c.has_next.ensures.next c.loop-waits-test.true), inv.end_is, inv.count) in
     let here : slice_get lives index ≡ Some live =
     sym (inv.rest index (omega arith)) ∙ slice_get_read c.loop-waits.lives.list.items (length c.loop-waits.lives.list.items) index live refl within c.index-live.ensures in
-    let both = next_live f rules_now.params.now rules_now.bound rules_now.stop_rule table c.args.at.now.place inv.at inv.low lives index live here inv.live in
+    let both = next_live f rules_now.params.now rules_now.bound rules_now.stop_rule table c.args.at.place inv.at inv.low lives index live here inv.live in
     let next = both.0 in
     let params = rules_now.params.now in
     let rule = rules_now.stop_rule in
@@ -183,27 +183,27 @@ leaves_out_overfull-left_out-requires-clause-overfull g c = λ fits.
     let first = c.args.lives.now.first in
     let there : slice_get (drop first lives) (index - first) ≡ Some live = from_first lives first (index - first) index live (omega (arith, inv.begun)) here in
     let over = c.requires.over (index - first) live there in
-    let is_over : overfull ≡ is_overfull f params group.place c.args.at.now.place =
-    c.is_overfull-overfull.ensures ∙ overfull_of f h params group.place c.args.at.now.place sums line refl is_sums inv.facts in
-    let is_long_line : long ≡ is_long f params group.place c.args.at.now.place =
-    long_found f h params group.place c.args.at.now.place sums live.over width long refl over refl
+    let is_over : overfull ≡ is_overfull f params group.place c.args.at.place =
+    c.is_overfull-overfull.ensures ∙ overfull_of f h params group.place c.args.at.place sums line refl is_sums inv.facts in
+    let is_long_line : long ≡ is_long f params group.place c.args.at.place =
+    long_found f h params group.place c.args.at.place sums live.over width long refl over refl
     is_sums inv.facts in
     ap (leaves_out rule) is_long_line
-    ∙ none_left_out f params bound rule group.place c.args.at.now.place c.requires.may c.requires.last (sym is_over ∙ fits)
+    ∙ none_left_out f params bound rule group.place c.args.at.place c.requires.may c.requires.last (sym is_over ∙ fits)
 
 pub stops_after_overfull-stopped-requires : goal.stops_after_overfull-stopped-requires
 stops_after_overfull-stopped-requires g c = λ fits.
     let inv = c.loop-waits.invariant in
-    let rules_now = c.args.at.now.rules.now in
+    let rules_now = c.args.at.rules.now in
     let f = g.M.Meter.facts c.args.meter.now in
-    let table = c.args.at.now.table.now in
+    let table = c.args.at.table.now in
     let lives = c.args.lives.now.list.items in
     let index = c.loop-waits.index in
     let live = c.index-live.result.now in
     let within : index < length c.loop-waits.lives.list.items = omega (arith, (c.has_next.ensures.next c.loop-waits-test.true), inv.end_is, inv.count) in
     let here : slice_get lives index ≡ Some live =
     sym (inv.rest index (omega arith)) ∙ slice_get_read c.loop-waits.lives.list.items (length c.loop-waits.lives.list.items) index live refl within c.index-live.ensures in
-    let both = next_live f rules_now.params.now rules_now.bound rules_now.stop_rule table c.args.at.now.place inv.at inv.low lives index live here inv.live in
+    let both = next_live f rules_now.params.now rules_now.bound rules_now.stop_rule table c.args.at.place inv.at inv.low lives index live here inv.live in
     let next = both.0 in
     let params = rules_now.params.now in
     let rule = rules_now.stop_rule in
@@ -222,27 +222,27 @@ stops_after_overfull-stopped-requires g c = λ fits.
     let first = c.args.lives.now.first in
     let there : slice_get (drop first lives) (index - first) ≡ Some live = from_first lives first (index - first) index live (omega (arith, inv.begun)) here in
     let over = c.requires.over (index - first) live there in
-    let is_over : overfull ≡ is_overfull f params group.place c.args.at.now.place =
-    c.is_overfull-overfull.ensures ∙ overfull_of f h params group.place c.args.at.now.place sums line refl is_sums inv.facts in
-    let is_long_line : long ≡ is_long f params group.place c.args.at.now.place =
-    long_found f h params group.place c.args.at.now.place sums live.over width long refl over refl
+    let is_over : overfull ≡ is_overfull f params group.place c.args.at.place =
+    c.is_overfull-overfull.ensures ∙ overfull_of f h params group.place c.args.at.place sums line refl is_sums inv.facts in
+    let is_long_line : long ≡ is_long f params group.place c.args.at.place =
+    long_found f h params group.place c.args.at.place sums live.over width long refl over refl
     is_sums inv.facts in
     c.leaves_out_overfull-left_out.ensures ∙ ap (leaves_out rule) is_long_line
-    ∙ none_left_out f params bound rule group.place c.args.at.now.place c.requires.may c.requires.last (sym is_over ∙ fits)
+    ∙ none_left_out f params bound rule group.place c.args.at.place c.requires.may c.requires.last (sym is_over ∙ fits)
 
 pub loop-waits-preserved : goal.loop-waits-preserved
 loop-waits-preserved g c =
     let inv = c.loop-waits.invariant in
-    let rules_now = c.args.at.now.rules.now in
+    let rules_now = c.args.at.rules.now in
     let f = g.M.Meter.facts c.args.meter.now in
-    let table = c.args.at.now.table.now in
+    let table = c.args.at.table.now in
     let lives = c.args.lives.now.list.items in
     let index = c.loop-waits.index in
     let live = c.index-live.result.now in
     let within : index < length c.loop-waits.lives.list.items = omega (arith, (c.has_next.ensures.next c.loop-waits-test.true), inv.end_is, inv.count) in
     let here : slice_get lives index ≡ Some live =
     sym (inv.rest index (omega arith)) ∙ slice_get_read c.loop-waits.lives.list.items (length c.loop-waits.lives.list.items) index live refl within c.index-live.ensures in
-    let both = next_live f rules_now.params.now rules_now.bound rules_now.stop_rule table c.args.at.now.place inv.at inv.low lives index live here inv.live in
+    let both = next_live f rules_now.params.now rules_now.bound rules_now.stop_rule table c.args.at.place inv.at inv.low lives index live here inv.live in
     let next = both.0 in
     let params = rules_now.params.now in
     let rule = rules_now.stop_rule in
@@ -261,12 +261,12 @@ loop-waits-preserved g c =
     let first = c.args.lives.now.first in
     let there : slice_get (drop first lives) (index - first) ≡ Some live = from_first lives first (index - first) index live (omega (arith, inv.begun)) here in
     let over = c.requires.over (index - first) live there in
-    let is_over : overfull ≡ is_overfull f params group.place c.args.at.now.place =
-    c.is_overfull-overfull.ensures ∙ overfull_of f h params group.place c.args.at.now.place sums line refl is_sums inv.facts in
-    let is_long_line : long ≡ is_long f params group.place c.args.at.now.place =
-    long_found f h params group.place c.args.at.now.place sums live.over width long refl over refl
+    let is_over : overfull ≡ is_overfull f params group.place c.args.at.place =
+    c.is_overfull-overfull.ensures ∙ overfull_of f h params group.place c.args.at.place sums line refl is_sums inv.facts in
+    let is_long_line : long ≡ is_long f params group.place c.args.at.place =
+    long_found f h params group.place c.args.at.place sums live.over width long refl over refl
     is_sums inv.facts in
-    let tried = line_leaving_out f h params bound rule group c.args.at.now.place c.args.at.now.penalty sums line c.leaves_out_overfull-left_out.result long
+    let tried = line_leaving_out f h params bound rule group c.args.at.place c.args.at.penalty sums line c.leaves_out_overfull-left_out.result long
     c.requires.penalty refl is_sums inv.facts c.leaves_out_overfull-left_out.ensures is_long_line in
     let stopped : c.stops_after_overfull-stopped.result ≡ stops_after rule overfull long =
     c.stops_after_overfull-stopped.ensures ∙ ap (stops_after rule overfull) c.leaves_out_overfull-left_out.ensures ∙ stopped_is rule overfull long in
@@ -291,7 +291,7 @@ loop-waits-preserved g c =
     record {
       wide = c.offer_line-now.ensures.wide;
       facts = c.try_line-sums.ensures.facts ∙ inv.facts;
-      swept = swept_more stop c.args.at.now.place inv.low group.place (g.M.Meter.trials c.args.meter.now) (g.M.Meter.trials c.loop-waits.meter)
+      swept = swept_more stop c.args.at.place inv.low group.place (g.M.Meter.trials c.args.meter.now) (g.M.Meter.trials c.loop-waits.meter)
           (g.M.Meter.trials c.try_line-sums.new.self) inv.swept inv.fresh next.later next.group.earlier next.not_stopped c.try_line-sums.ensures.counted
           c.try_line-sums.ensures.others;
       kept = kept_more group.place (g.M.Meter.trials c.args.meter.now) (g.M.Meter.trials c.loop-waits.meter) (g.M.Meter.trials c.try_line-sums.new.self) inv.kept
@@ -305,27 +305,27 @@ loop-waits-preserved g c =
       fresh = fresh_more inv.low group.place (g.M.Meter.trials c.args.meter.now) (g.M.Meter.trials c.loop-waits.meter)
           (g.M.Meter.trials c.try_line-sums.new.self) inv.fresh next.later c.try_line-sums.ensures.others;
       live = both.1;
-      row = subst (λ (x : Live). IsOfferingUnless c.leaves_out_overfull-left_out.result table params bound x.group c.args.at.now.place c.args.at.now.penalty line
-          (row_at params.first_lines table c.args.at.now.place c.loop-waits.row) (row_at params.first_lines table c.args.at.now.place c.offer_line-now.new.row))
+      row = subst (λ (x : Live). IsOfferingUnless c.leaves_out_overfull-left_out.result table params bound x.group c.args.at.place c.args.at.penalty line
+          (row_at params.first_lines table c.args.at.place c.loop-waits.row) (row_at params.first_lines table c.args.at.place c.offer_line-now.new.row))
           (sym same_live) c.offer_line-now.ensures.row p refl next.group.since tried
-          (row_silent p table c.args.at.now.place inv.at group.start (row_at params.first_lines table c.args.at.now.place c.loop-waits.row) next.gap c.requires.last next.silent inv.row);
+          (row_silent p table c.args.at.place inv.at group.start (row_at params.first_lines table c.args.at.place c.loop-waits.row) next.gap c.requires.last next.silent inv.row);
       begun = omega (arith, inv.begun);
       first_bounded = c.keep_group-kept.ensures.first_bounded;
       kept_bounded = c.keep_group-kept.ensures.result_bounded;
       count = c.keep_group-kept.ensures.count ∙ ap length marked ∙ length-set items index kept ∙ inv.count;
       rest = λ k after. c.keep_group-kept.ensures.rest k (omega (arith, inv.kept_bounded)) ∙ ap (λ xs. slice_get xs k) marked
           ∙ get-set_other items index k kept (λ same. omega (arith, same)) ∙ inv.rest k (omega arith);
-      front = front_more p stop table c.args.at.now.place c.args.at.now.place inv.at inv.low (groups_of old) (groups_of new) group c.stops_after_overfull-stopped.result inv.front next
-          (goes_on f params rule group.place c.args.at.now.place overfull long c.stops_after_overfull-stopped.result stopped is_over is_long_line)
-          (stopped_silent f params bound table c.args.at.now.place group rule overfull long c.stops_after_overfull-stopped.result stopped is_over is_long_line c.requires.may next.group)
+      front = front_more p stop table c.args.at.place c.args.at.place inv.at inv.low (groups_of old) (groups_of new) group c.stops_after_overfull-stopped.result inv.front next
+          (goes_on f params rule group.place c.args.at.place overfull long c.stops_after_overfull-stopped.result stopped is_over is_long_line)
+          (stopped_silent f params bound table c.args.at.place group rule overfull long c.stops_after_overfull-stopped.result stopped is_over is_long_line c.requires.may next.group)
           (groups_kept c.stops_after_overfull-stopped.result old new kept made);
-      over = over_kept f params (c.args.at.now.place + 1) c.stops_after_overfull-stopped.result old new kept inv.over
-          (over_found f h params group.place c.args.at.now.place sums live.over next_over width overfull next.group.earlier
+      over = over_kept f params (c.args.at.place + 1) c.stops_after_overfull-stopped.result old new kept inv.over
+          (over_found f h params group.place c.args.at.place sums live.over next_over width overfull next.group.earlier
           refl over is_over refl is_sums inv.facts)
           made;
       best = best_kept table params c.stops_after_overfull-stopped.result old new kept inv.best (c.requires.best (index - first) live there) made;
       index_bounded = omega (arith, c.has_next.ensures.next c.loop-waits-test.true);
-      waits = λ is. later_loosest f h params bound group.place c.args.at.now.place sums (c.requires.waits (c.all_wait-waits.ensures.waits is))
+      waits = λ is. later_loosest f h params bound group.place c.args.at.place sums (c.requires.waits (c.all_wait-waits.ensures.waits is))
           next.group.earlier c.requires.last is_sums inv.facts c.requires.uncounted (c.all_wait-waits.ensures.loosest is);
       begins = λ _. omega (arith, inv.begun);
       end_is = inv.end_is;
@@ -337,12 +337,12 @@ loop-waits-preserved g c =
 pub loop-waits-init : goal.loop-waits-init
 loop-waits-init g c =
     let f = g.M.Meter.facts c.args.meter.now in
-    let rules_now = c.args.at.now.rules.now in
+    let rules_now = c.args.at.rules.now in
     let p = problem_leaving_out f rules_now.params.now rules_now.bound rules_now.stop_rule in
     let items = c.args.lives.now.list.items in
     let first = c.args.lives.now.first in
     let none : drop first (take first items) ≡ [] = none_between first items c.requires.first_bounded in
-    let empty = row_none rules_now.params.now.first_lines c.args.at.now.table.now c.args.at.now.place c.args.row.now c.requires.empty in
+    let empty = row_none rules_now.params.now.first_lines c.args.at.table.now c.args.at.place c.args.row.now c.requires.empty in
     record {
       wide = ap length empty ∙ length-replicate (slots rules_now.params.now.first_lines) None;
       facts = refl;
@@ -351,20 +351,20 @@ loop-waits-init g c =
       tried = λ some. absurd (omega (arith, some));
       at = 0;
       low = 0;
-      held = offers_none rules_now.params.now.first_lines c.args.at.now.table.now 0 c.args.row.now c.requires.empty;
+      held = offers_none rules_now.params.now.first_lines c.args.at.table.now 0 c.args.row.now c.requires.empty;
       fresh = λ a less. omega arith;
-      live = subst (IsActive p (stops_at f rules_now.params.now rules_now.stop_rule) c.args.at.now.table.now c.args.at.now.place c.args.at.now.place 0 0)
+      live = subst (IsActive p (stops_at f rules_now.params.now rules_now.stop_rule) c.args.at.table.now c.args.at.place c.args.at.place 0 0)
           (sym (drop-map (λ (x : Live). x.group) first items)) c.requires.filled.is_active;
-      row = subst (IsRow p c.args.at.now.table.now c.args.at.now.place 0) (sym empty) (row_empty p c.args.at.now.table.now c.args.at.now.place);
+      row = subst (IsRow p c.args.at.table.now c.args.at.place 0) (sym empty) (row_empty p c.args.at.table.now c.args.at.place);
       begun = omega arith;
       first_bounded = omega arith;
       kept_bounded = omega arith;
       count = refl;
       rest = λ k less. refl;
-      front = subst (λ xs. IsFront p (stops_at f rules_now.params.now rules_now.stop_rule) c.args.at.now.table.now c.args.at.now.place c.args.at.now.place 0 0 (groups_of xs)) (sym none)
+      front = subst (λ xs. IsFront p (stops_at f rules_now.params.now rules_now.stop_rule) c.args.at.table.now c.args.at.place c.args.at.place 0 0 (groups_of xs)) (sym none)
           (λ rest free active. active);
-      over = subst (AreOver f rules_now.params.now (c.args.at.now.place + 1)) (sym none) (λ k x there. absurd (cc));
-      best = subst (HaveBest c.args.at.now.table.now rules_now.params.now) (sym none) (λ k x there. absurd (cc));
+      over = subst (AreOver f rules_now.params.now (c.args.at.place + 1)) (sym none) (λ k x there. absurd (cc));
+      best = subst (HaveBest c.args.at.table.now rules_now.params.now) (sym none) (λ k x there. absurd (cc));
       index_bounded = omega (arith, c.len-end.ensures, c.requires.first_bounded);
       waits = λ is. absurd (cc);
       begins = λ is. absurd (cc);
@@ -376,32 +376,32 @@ pub offer_waiting-waiting-requires : goal.offer_waiting-waiting-requires
 offer_waiting-waiting-requires g c =
     let inv = c.loop-waits.invariant in
     let f = g.M.Meter.facts c.args.meter.now in
-    let rules_now = c.args.at.now.rules.now in
+    let rules_now = c.args.at.rules.now in
     let params = rules_now.params.now in
     let p = problem_leaving_out f params rules_now.bound rules_now.stop_rule in
     let stop = stops_at f params rules_now.stop_rule in
-    let table = c.args.at.now.table.now in
+    let table = c.args.at.table.now in
     let now = c.loop-waits.lives.list.items in
-    let waiting = rest_waits f params rules_now.bound rules_now.stop_rule table c.args.at.now.place inv.at inv.low c.args.lives.now.first c.loop-waits.index c.loop-waits.index
+    let waiting = rest_waits f params rules_now.bound rules_now.stop_rule table c.args.at.place inv.at inv.low c.args.lives.now.first c.loop-waits.index c.loop-waits.index
     c.args.lives.now.list.items now inv.begun refl inv.count inv.rest (ended_by c.loop-waits.index c.len-end.result (c.has_next.ensures.none c.loop-waits-test.false) inv.end_is inv.waits) c.requires.over c.requires.best inv.live in
     let slice : c.rest_of.result.now ≡ drop c.loop-waits.index now = c.rest_of.ensures ∙ ap (drop c.loop-waits.index) c.deref.ensures.value in
     record {
       can = record {
         wide = inv.wide;
         uncounted = λ some. waiting.uncounted (subst (λ xs. 0 < length xs) slice some);
-        each = subst (CanAllWait 0 table c.args.at.now.place) (sym slice)
-            (can_uncounted params.first_lines table c.args.at.now.place (drop c.loop-waits.index now) waiting.uncounted
-            (can_wait p stop table c.args.at.now.place c.args.at.now.place inv.at inv.low (drop c.loop-waits.index now) c.requires.filled.is_table waiting.active));
-        rising = subst AreRising (sym slice) (active_rising p stop table c.args.at.now.place c.args.at.now.place inv.at inv.low (drop c.loop-waits.index now) waiting.active);
+        each = subst (CanAllWait 0 table c.args.at.place) (sym slice)
+            (can_uncounted params.first_lines table c.args.at.place (drop c.loop-waits.index now) waiting.uncounted
+            (can_wait p stop table c.args.at.place c.args.at.place inv.at inv.low (drop c.loop-waits.index now) c.requires.filled.is_table waiting.active));
+        rising = subst AreRising (sym slice) (active_rising p stop table c.args.at.place c.args.at.place inv.at inv.low (drop c.loop-waits.index now) waiting.active);
         best = subst (HaveBest table params) (sym slice) waiting.best;
         places = c.requires.places;
       };
       penalty = c.requires.penalty_bounded;
-      held = λ none. offers_later table inv.low c.args.at.now.place c.loop-waits.row.offers
-          (low_within p stop table c.args.at.now.place c.args.at.now.place inv.at inv.low (groups_of (drop c.loop-waits.index now)) waiting.active) (inv.held none);
+      held = λ none. offers_later table inv.low c.args.at.place c.loop-waits.row.offers
+          (low_within p stop table c.args.at.place c.args.at.place inv.at inv.low (groups_of (drop c.loop-waits.index now)) waiting.active) (inv.held none);
       next = subst (λ xs. AreOffersBefore table xs 0 c.loop-waits.row.offers) (sym slice)
           (λ live here. offers_later table inv.low live.group.place c.loop-waits.row.offers
-          (first_later p stop table c.args.at.now.place c.args.at.now.place inv.at inv.low (drop c.loop-waits.index now) live waiting.active here)
+          (first_later p stop table c.args.at.place c.args.at.place inv.at inv.low (drop c.loop-waits.index now) live waiting.active here)
           (inv.held (waiting.uncounted (omega (arith, slice_get_within (drop c.loop-waits.index now) 0 live here)))));
     }
 
@@ -417,14 +417,14 @@ pub returns-clause-row : goal.returns-clause-row
 returns-clause-row g c =
     let inv = c.loop-waits.invariant in
     let f = g.M.Meter.facts c.args.meter.now in
-    let rules_now = c.args.at.now.rules.now in
+    let rules_now = c.args.at.rules.now in
     let params = rules_now.params.now in
     let bound = rules_now.bound in
     let rule = rules_now.stop_rule in
     let p = problem_leaving_out f params bound rule in
     let stop = stops_at f params rule in
-    let table = c.args.at.now.table.now in
-    let place = c.args.at.now.place in
+    let table = c.args.at.table.now in
+    let place = c.args.at.place in
     let now = c.loop-waits.lives.list.items in
     let waiting = rest_waits f params bound rule table place inv.at inv.low c.args.lives.now.first c.loop-waits.index c.loop-waits.index
     c.args.lives.now.list.items now inv.begun refl inv.count inv.rest (ended_by c.loop-waits.index c.len-end.result (c.has_next.ensures.none c.loop-waits-test.false) inv.end_is inv.waits) c.requires.over c.requires.best inv.live in
@@ -435,19 +435,19 @@ returns-clause-row g c =
     let new = row_at params.first_lines table place c.offer_waiting-waiting.new.row in
     let offered : IsOfferingWaiting table params bound (drop c.loop-waits.index now) place (f.penalty place) old new =
     subst (λ n. IsOfferingWaiting table params bound (drop c.loop-waits.index now) place n old new) c.requires.penalty
-    (subst (λ xs. IsOfferingWaiting table params bound xs place c.args.at.now.penalty old new) slice c.offer_waiting-waiting.ensures.row) in
+    (subst (λ xs. IsOfferingWaiting table params bound xs place c.args.at.penalty old new) slice c.offer_waiting-waiting.ensures.row) in
     offered p stop inv.at inv.low refl c.requires.last costs waiting.active inv.row
 
 pub returns-clause-live : goal.returns-clause-live
 returns-clause-live g c = λ free.
     let inv = c.loop-waits.invariant in
     let f = g.M.Meter.facts c.args.meter.now in
-    let rules_now = c.args.at.now.rules.now in
+    let rules_now = c.args.at.rules.now in
     let params = rules_now.params.now in
     let bound = rules_now.bound in
     let rule = rules_now.stop_rule in
-    let table = c.args.at.now.table.now in
-    let place = c.args.at.now.place in
+    let table = c.args.at.table.now in
+    let place = c.args.at.place in
     let now = c.loop-waits.lives.list.items in
     let waiting = rest_waits f params bound rule table place inv.at inv.low c.args.lives.now.first c.loop-waits.index c.loop-waits.index
     c.args.lives.now.list.items now inv.begun refl inv.count inv.rest (ended_by c.loop-waits.index c.len-end.result (c.has_next.ensures.none c.loop-waits-test.false) inv.end_is inv.waits) c.requires.over c.requires.best inv.live in
@@ -462,12 +462,12 @@ pub returns-clause-over : goal.returns-clause-over
 returns-clause-over g c =
     let inv = c.loop-waits.invariant in
     let f = g.M.Meter.facts c.args.meter.now in
-    let rules_now = c.args.at.now.rules.now in
+    let rules_now = c.args.at.rules.now in
     let params = rules_now.params.now in
     let bound = rules_now.bound in
     let rule = rules_now.stop_rule in
-    let table = c.args.at.now.table.now in
-    let place = c.args.at.now.place in
+    let table = c.args.at.table.now in
+    let place = c.args.at.place in
     let now = c.loop-waits.lives.list.items in
     let waiting = rest_waits f params bound rule table place inv.at inv.low c.args.lives.now.first c.loop-waits.index c.loop-waits.index
     c.args.lives.now.list.items now inv.begun refl inv.count inv.rest (ended_by c.loop-waits.index c.len-end.result (c.has_next.ensures.none c.loop-waits-test.false) inv.end_is inv.waits) c.requires.over c.requires.best inv.live in
@@ -481,10 +481,10 @@ pub returns-clause-best : goal.returns-clause-best
 returns-clause-best g c =
     let inv = c.loop-waits.invariant in
     let f = g.M.Meter.facts c.args.meter.now in
-    let rules_now = c.args.at.now.rules.now in
+    let rules_now = c.args.at.rules.now in
     let now = c.loop-waits.lives.list.items in
-    let table = c.args.at.now.table.now in
-    let waiting = rest_waits f rules_now.params.now rules_now.bound rules_now.stop_rule table c.args.at.now.place inv.at inv.low c.args.lives.now.first c.loop-waits.index c.loop-waits.index
+    let table = c.args.at.table.now in
+    let waiting = rest_waits f rules_now.params.now rules_now.bound rules_now.stop_rule table c.args.at.place inv.at inv.low c.args.lives.now.first c.loop-waits.index c.loop-waits.index
     c.args.lives.now.list.items now inv.begun refl inv.count inv.rest (ended_by c.loop-waits.index c.len-end.result (c.has_next.ensures.none c.loop-waits-test.false) inv.end_is inv.waits) c.requires.over c.requires.best inv.live in
     let first = c.loop-waits.lives.first in
     let within : c.loop-waits.kept ≤ length now = omega (arith, inv.kept_bounded, inv.index_bounded, inv.end_is, inv.count) in
