@@ -249,7 +249,7 @@ abbrev pub offer_by : Offer → LineCost → Offer
 offer_by best alone = record { overhang = best.overhang +ℤ alone.overhang; demerits = best.demerits +ℤ alone.demerits; index = best.index }
 
 -- The offers by a line have the order of their entries.
-offers_ordered :
+pub offers_ordered :
     (a b : Offer) (e f : Entry) (alone : LineCost)
     → NotAfter (offer_numbers a e) (offer_numbers b f) → NotAfter (offer_numbers (offer_by a alone) e) (offer_numbers (offer_by b alone) f)
 offers_ordered a b e f alone (inl less) = inl (omega (arith, ints))
@@ -257,7 +257,7 @@ offers_ordered a b e f alone (inr (same, inl less)) = inr (omega (arith, ints), 
 offers_ordered a b e f alone (inr (same, inr (equal, rest))) = inr (omega (arith, ints), inr (omega (arith, ints), rest))
 
 -- It stands for the offer of the entry.
-offer_is_made :
+pub offer_is_made :
     (params : Params) (e : Entry) (k place : ℕ) (alone : LineCost)
     → entry_with_totals e k place (totals_of alone.class (offer_by (offer_before params e k alone.class) alone)) ≡ offer_from params e k place alone
 offer_is_made params e k place alone =
@@ -282,7 +282,7 @@ offer_is_made params e k place alone =
     costs = omega (arith, ints)
 
 -- The offer of the best entry is the best offer.
-best_by_totals :
+pub best_by_totals :
     (table : List Entry) (params : Params) (group : ActiveGroup) (place : ℕ) (alone : LineCost) (best : Offer)
     → (is : IsBestFor table params alone.class group.start group.end best)
     → IsBestOffer table params place alone group.start group.end

@@ -16,4 +16,5 @@ pub mod Lives
 pub mod Offers
 pub mod BestOffers
 pub mod BestEntries
+pub mod Suffix
 pub mod Held

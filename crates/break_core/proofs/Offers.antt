@@ -1,6 +1,6 @@
 -- Offers that are kept without their entries, and the row that they stand for.
 use Rattle.std.proofs.Common.{◌≡◌, ◌∙◌, ℕ, zero, suc, ◌+◌, ◌<◌, ◌≤◌, true, false, List, [], ◌∷◌, ◌++◌, length, set, replicate, refl, ap, sym, subst, arith, Option, Some, None}
-use Rattle.std.specs.Prelude.{ℤ, not, int_lt, slice_get, ◌==◌, ◌<ℤ◌, ◌≤ℤ◌}
+use Rattle.std.specs.Prelude.{ℤ, pos, not, int_lt, slice_get, ◌==◌, ◌<ℤ◌, ◌≤ℤ◌}
 use Rattle.std.proofs.Math.Logic.{◌⊎◌, inl, inr}
 use Rattle.std.proofs.lemmas.Bool.{cases_Bool, cases_eq, cond-true, cond-false}
 use Rattle.std.proofs.lemmas.Int.{ints}
@@ -112,11 +112,11 @@ pub row_none : (cut : ℕ) (table : List Entry) (place : ℕ) (row : Row) → Is
 row_none zero table place row empty = ap (shown_from table place 0) (empty.offers refl)
 row_none (suc n) table place row empty = empty.counted (omega arith)
 
-none_here : (class : Fitness) (o : Offer) → slice_get no_offers (class_index class) ≡ Some o → o.index ≡ no_entry
-none_here VeryLoose o at = ap (λ (x : Offer). x.index) (sym (same_Some no_offer o at))
-none_here Loose o at = ap (λ (x : Offer). x.index) (sym (same_Some no_offer o at))
-none_here Decent o at = ap (λ (x : Offer). x.index) (sym (same_Some no_offer o at))
-none_here Tight o at = ap (λ (x : Offer). x.index) (sym (same_Some no_offer o at))
+none_here : (class : Fitness) (o : Offer) → slice_get no_offers (class_index class) ≡ Some o → o ≡ no_offer
+none_here VeryLoose o at = sym (same_Some no_offer o at)
+none_here Loose o at = sym (same_Some no_offer o at)
+none_here Decent o at = sym (same_Some no_offer o at)
+none_here Tight o at = sym (same_Some no_offer o at)
 
 pub offers_none : (cut : ℕ) (table : List Entry) (place : ℕ) (row : Row) → IsEmpty cut row → cut ≡ 0 → AreOffers table place row.offers
 offers_none cut table place row empty none = subst (AreOffers table place) (sym (empty.offers none)) (λ class o at. inl (none_here class o at))
@@ -174,12 +174,12 @@ shown_ordered a b e f place class (inr (same, inr (equal, rest))) =
 
 pub offer_real :
     (table : List Entry) (place : ℕ) (class : Fitness) (o : Offer)
-    → (o.index ≡ no_entry) ⊎ IsOffer table place class o → (o.index ≡ no_entry → ⊥) → IsOffer table place class o
-offer_real table place class o (inl none) some = absurd (some none)
+    → (o ≡ no_offer) ⊎ IsOffer table place class o → (o.index ≡ no_entry → ⊥) → IsOffer table place class o
+offer_real table place class o (inl none) some = absurd (some (ap (λ (x : Offer). x.index) none))
 offer_real table place class o (inr is) some = is
 
 -- Integers.
-at_most_cases : (a b : ℤ) → a ≤ℤ b → (a <ℤ b) ⊎ (a ≡ b)
+pub at_most_cases : (a b : ℤ) → a ≤ℤ b → (a <ℤ b) ⊎ (a ≡ b)
 at_most_cases a b least = which (cases_Bool (int_lt a b))
   where
     which : (int_lt a b ≡ true) ⊎ (int_lt a b ≡ false) → (a <ℤ b) ⊎ (a ≡ b)
@@ -193,9 +193,10 @@ at_most_cases a b least = which (cases_Bool (int_lt a b))
 pub put_kept :
     (table : List Entry) (low place : ℕ) (offers : List Offer) (class : Fitness) (held offered : Offer) (e : Entry)
     → slice_get offers (class_index class) ≡ Some held → slice_get table offered.index ≡ Some e
-    → held.index < no_entry → AreOffers table low offers → IsBelow held offered
+    → offered.overhang ≤ℤ pos 9223372036854775807 → offered.demerits ≤ℤ pos 9223372036854775807
+    → AreOffers table low offers → IsBelow held offered
     → IsPut (entry_with_totals e offered.index place (totals_of class offered)) (shown_from table place 0 offers) (shown_from table place 0 offers)
-put_kept table low place offers class held offered e at present real are below =
+put_kept table low place offers class held offered e at present few_overhang few_demerits are below =
     record {
       held = shown_offer table place class held;
       was_present = was;
@@ -210,7 +211,12 @@ put_kept table low place offers class held offered e at present real are below =
     }
   where
     is : IsOffer table low class held
-    is = offer_real table low class held (are class held at) (λ none. omega (arith, real, none))
+    is = there (are class held at) below
+      where
+        there : (held ≡ no_offer) ⊎ IsOffer table low class held → IsBelow held offered → IsOffer table low class held
+        there (inr stands) _ = stands
+        there (inl none) (inl less) = absurd (omega (arith, ints, less, few_overhang, ap (λ (x : Offer). x.overhang) none))
+        there (inl none) (inr (same, less)) = absurd (omega (arith, ints, less, few_demerits, ap (λ (x : Offer). x.demerits) none))
 
     kept : Entry
     kept = entry_with_totals is.before held.index place (totals_of class held)
@@ -222,7 +228,7 @@ put_kept table low place offers class held offered e at present real are below =
     is_here = omega arith
 
     shown : shown_offer table place class held ≡ Some kept
-    shown = shown_some table place class held is.before real is.present
+    shown = shown_some table place class held is.before is.real is.present
 
     was : slice_get (shown_from table place 0 offers) here ≡ Some (shown_offer table place class held)
     was = ap (slice_get (shown_from table place 0 offers)) is_here ∙ shown_here table place offers class held at
@@ -235,7 +241,7 @@ put_kept table low place offers class held offered e at present real are below =
 pub put_new :
     (table : List Entry) (low place : ℕ) (offers : List Offer) (class : Fitness) (held offered : Offer) (e : Entry)
     → slice_get offers (class_index class) ≡ Some held → slice_get table offered.index ≡ Some e
-    → offered.index < no_entry → low ≤ e.end.place → AreOffers table low offers → (held.index ≡ no_entry) ⊎ IsAtMost offered held
+    → offered.index < no_entry → low ≤ e.end.place → AreOffers table low offers → IsAtMost offered held
     → IsPut (entry_with_totals e offered.index place (totals_of class offered)) (shown_from table place 0 offers)
     (shown_from table place 0 (set offers (class_index class) offered))
 put_new table low place offers class held offered e at present real later are most =
@@ -279,11 +285,10 @@ put_new table low place offers class held offered e at present real later are mo
         cases (inr equal) = inr (equal, inl (omega (arith, ints, earlier, later)))
 
     older :
-        (h : Entry) → shown_offer table place class held ≡ Some h → (held.index ≡ no_entry) ⊎ IsOffer table low class held
-        → (held.index ≡ no_entry) ⊎ IsAtMost offered held → NotAfter (compared_numbers new) (compared_numbers h)
-    older h same (inl none) either = no_older h same none
-    older h same (inr is) (inl none) = no_older h same none
-    older h same (inr is) (inr better) =
+        (h : Entry) → shown_offer table place class held ≡ Some h → (held ≡ no_offer) ⊎ IsOffer table low class held
+        → IsAtMost offered held → NotAfter (compared_numbers new) (compared_numbers h)
+    older h same (inl none) better = no_older h same (ap (λ (x : Offer). x.index) none)
+    older h same (inr is) better =
         subst (λ x. NotAfter (compared_numbers new) (compared_numbers x))
         (same_Some (entry_with_totals is.before held.index place (totals_of class held)) h
         (sym (shown_some table place class held is.before is.real is.present) ∙ same))
@@ -293,7 +298,7 @@ put_new table low place offers class held offered e at present real later are mo
 pub offers_later : (table : List Entry) (low high : ℕ) (offers : List Offer) → low ≤ high → AreOffers table low offers → AreOffers table high offers
 offers_later table low high offers later are class o at = which (are class o at)
   where
-    which : (o.index ≡ no_entry) ⊎ IsOffer table low class o → (o.index ≡ no_entry) ⊎ IsOffer table high class o
+    which : (o ≡ no_offer) ⊎ IsOffer table low class o → (o ≡ no_offer) ⊎ IsOffer table high class o
     which (inl none) = inl none
     which (inr is) =
         inr (record {
@@ -322,7 +327,7 @@ offers_put table place offers new class offered are is (inr made) = subst (AreOf
     all other o at = which (cases_eq (class_index other) (class_index class))
       where
         which :
-            (class_index other ≡ class_index class) ⊎ (class_index other ≡ class_index class → ⊥) → (o.index ≡ no_entry) ⊎ IsOffer table place other o
+            (class_index other ≡ class_index class) ⊎ (class_index other ≡ class_index class → ⊥) → (o ≡ no_offer) ⊎ IsOffer table place other o
         which (inl same) =
             let kind : other ≡ class = rank_apart other class same in
             let there : slice_get (set offers (class_index class) offered) (class_index class) ≡ Some o =
@@ -334,7 +339,7 @@ offers_put table place offers new class offered are is (inr made) = subst (AreOf
 -- Offers stand for the same entries in a longer table.
 pub offer_longer :
     (table more : List Entry) (place : ℕ) (class : Fitness) (o : Offer)
-    → (o.index ≡ no_entry) ⊎ IsOffer table place class o → (o.index ≡ no_entry) ⊎ IsOffer (table ++ more) place class o
+    → (o ≡ no_offer) ⊎ IsOffer table place class o → (o ≡ no_offer) ⊎ IsOffer (table ++ more) place class o
 offer_longer table more place class o (inl none) = inl none
 offer_longer table more place class o (inr is) =
     inr (record {
@@ -347,8 +352,10 @@ offer_longer table more place class o (inr is) =
 
 shown_longer :
     (table more : List Entry) (place : ℕ) (class : Fitness) (o : Offer)
-    → (o.index ≡ no_entry) ⊎ IsOffer table place class o → shown_offer (table ++ more) place class o ≡ shown_offer table place class o
-shown_longer table more place class o (inl none) = shown_none (table ++ more) place class o none ∙ sym (shown_none table place class o none)
+    → (o ≡ no_offer) ⊎ IsOffer table place class o → shown_offer (table ++ more) place class o ≡ shown_offer table place class o
+shown_longer table more place class o (inl none) =
+    let number : o.index ≡ no_entry = ap (λ (x : Offer). x.index) none in
+    shown_none (table ++ more) place class o number ∙ sym (shown_none table place class o number)
 shown_longer table more place class o (inr is) =
     shown_some (table ++ more) place class o is.before is.real (get_left table more o.index is.before is.present)
     ∙ sym (shown_some table place class o is.before is.real is.present)
@@ -369,7 +376,7 @@ moved_some table new place class o e real present made =
 -- One more offer is moved.
 pub moved_more :
     (table now new : List Entry) (front : List (Option Entry)) (place : ℕ) (class : Fitness) (o : Offer)
-    → (o.index ≡ no_entry) ⊎ IsOffer table place class o → now ≡ table ++ row_entries front
+    → (o ≡ no_offer) ⊎ IsOffer table place class o → now ≡ table ++ row_entries front
     → new ≡ now ++ row_entries (shown_offer now place class o ∷ []) → new ≡ table ++ row_entries (front ++ shown_offer table place class o ∷ [])
 moved_more table now new front place class o is before made =
     made
@@ -380,9 +387,9 @@ moved_more table now new front place class o is before made =
 
 pub offer_moved :
     (table now : List Entry) (front : List (Option Entry)) (place : ℕ) (class : Fitness) (o : Offer)
-    → (o.index ≡ no_entry) ⊎ IsOffer table place class o → now ≡ table ++ row_entries front → (o.index ≡ no_entry) ⊎ IsOffer now place class o
+    → (o ≡ no_offer) ⊎ IsOffer table place class o → now ≡ table ++ row_entries front → (o ≡ no_offer) ⊎ IsOffer now place class o
 offer_moved table now front place class o is before =
-    subst (λ t. (o.index ≡ no_entry) ⊎ IsOffer t place class o) (sym before) (offer_longer table (row_entries front) place class o is)
+    subst (λ t. (o ≡ no_offer) ⊎ IsOffer t place class o) (sym before) (offer_longer table (row_entries front) place class o is)
 
 -- The offers for all classes are moved.
 four_same :
@@ -417,7 +424,7 @@ moved_next table now new front place offers class o before are at made =
 pub moved_held :
     (table now : List Entry) (front : List (Option Entry)) (place : ℕ) (offers : List Offer) (class : Fitness) (o : Offer)
     → AreMoved table place offers front now → AreOffers table place offers → slice_get offers (class_index class) ≡ Some o
-    → (o.index ≡ no_entry) ⊎ IsOffer now place class o
+    → (o ≡ no_offer) ⊎ IsOffer now place class o
 moved_held table now front place offers class o before are at = offer_moved table now front place class o (are class o at) before.is
 
 pub moved_all :

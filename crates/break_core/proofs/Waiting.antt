@@ -33,7 +33,7 @@ use Rattle.break_core.specs.Passes.{problem_of}
 use Rattle.break_core.specs.Trials.{is_overfull}
 use Rattle.break_core.specs.Private.LeftOut.{is_long, over_before}
 use Rattle.break_core.specs.Private.Filling.{IsOfferingBest}
-use Rattle.break_core.specs.Private.Active.{stops_after, leaves_out, stops_at, problem_leaving_out, groups_of, AreOver, HasBest, HaveBest, MayStop, IsActive, AreLoosest, AllWait, CostLoosest, CanWait, CanAllWait, AreRising, AreOffersBefore, IsOfferingFirst, IsOfferingEach, IsOfferingWaiting, WasTried}
+use Rattle.break_core.specs.Private.Active.{stops_after, leaves_out, stops_at, problem_leaving_out, groups_of, AreOver, HasBest, HaveBest, MayStop, IsActive, AreLoosest, AllWait, CostLoosest, CanWait, CanAllWait, AreRising, IsOfferingEach, IsOfferingWaiting, WasTried}
 use Rattle.break_core.proofs.Active.{later_silent, kept_active, row_silent, row_same, row_end, next_active, IsFront}
 use Rattle.break_core.proofs.Detours.{first_is, long_means}
 use Rattle.break_core.proofs.Filled.{group_of}
@@ -238,20 +238,6 @@ low_within p stop table b high at low [] is = is.lower
 low_within p stop table b high at low (g ∷ groups) is =
     omega (arith, is.0.later, low_within p stop table b high g.end (g.place + 1) groups is.1)
 
--- After the offers of a group, those of the row are of entries of earlier places than the next group.
-pub held_on :
-    (table : List Entry) (place index : ℕ) (lives : List Live) (live : Live) (offers : List Offer)
-    → slice_get lives index ≡ Some live → CanAllWait 0 table place lives → AreOffers table (live.group.place + 1) offers → AreOffers table place offers
-held_on table place index lives live offers there can held =
-    let earlier = (can index live there).earlier in offers_later table (live.group.place + 1) place offers (omega (arith, earlier)) held
-
-pub next_on :
-    (table : List Entry) (index : ℕ) (lives : List Live) (live : Live) (offers : List Offer)
-    → slice_get lives index ≡ Some live → AreRising lives → AreOffers table (live.group.place + 1) offers → AreOffersBefore table lives (index + 1) offers
-next_on table index lives live offers there rising held next here =
-    let later = rising index (index + 1) live next refl there here in
-    offers_later table (live.group.place + 1) next.group.place offers (omega (arith, later)) held
-
 -- If the loosest line is not admitted, groups that wait leave a row as it is.
 none_waiting :
     (p : Problem) (stop : ℕ → ℕ → Bool) (table : List Entry) (params : Params) (bound : Bound) (penalty : ℤ) (b high at low : ℕ) (groups : List ActiveGroup)
@@ -284,37 +270,6 @@ pub no_group_waits :
 no_group_waits table params bound lives place penalty row none p stop at low cut within costs is here =
     let last : IsActive p stop table place place at low [] = subst (IsActive p stop table place place at low) none is in
     row_silent p table place at (length table) row last.gap within last.silent here
-
--- No group has been offered yet, and after all of them there are no more offers.
-pub offered_none :
-    (table : List Entry) (params : Params) (alone : LineCost) (lives : List Live) (place : ℕ) (row : List (Option Entry))
-    → IsOfferingFirst table params alone lives place 0 row row
-offered_none table params alone lives place row p stop at low cut within costs is here = record { at = at; low = low; rest = is; held = here }
-
-pub offered_more :
-    (table : List Entry) (params : Params) (alone : LineCost) (lives : List Live) (place index : ℕ) (live : Live) (old middle new : List (Option Entry))
-    → params.first_lines ≡ 0 → slice_get lives index ≡ Some live
-    → IsOfferingBest table params live.group place alone middle new → IsOfferingFirst table params alone lives place index old middle
-    → IsOfferingFirst table params alone lives place (index + 1) old new
-offered_more table params alone lives place index live old middle new none there offering first p stop at low cut within costs active here =
-    let before = first p stop at low cut within costs active here in
-    let group = group_at lives index live there in
-    let both = next_active p stop table place place before.at before.low index (groups_of lives) live.group group before.rest in
-    let next = both.0 in
-    record {
-      at = live.group.end;
-      low = live.group.place + 1;
-      rest = both.1;
-      held = offering p (cut ∙ none) next.group.since (λ s is_place. costs index live.group group s is_place)
-          (row_silent p table place before.at live.group.start middle next.gap within next.silent before.held);
-    }
-
-pub offered_all :
-    (table : List Entry) (params : Params) (alone : LineCost) (lives : List Live) (place n : ℕ) (old new : List (Option Entry))
-    → length (groups_of lives) ≤ n → IsOfferingFirst table params alone lives place n old new → IsOfferingEach table params alone lives place old new
-offered_all table params alone lives place n old new past first p stop at low cut within costs is here =
-    let end = first p stop at low cut within costs is here in
-    row_end p stop table place place end.at end.low n (groups_of lives) new past within end.rest end.held
 
 -- Where the pass admits the loosest line, groups that wait are offered by it.
 pub offered_waiting :

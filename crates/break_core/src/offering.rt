@@ -10,13 +10,13 @@ ghost use Rattle.break_lines.specs.Sizes.{fits_of_sums, IsSmallLineFits};
 ghost use Rattle.break_lines.specs.SmallCosts.{IsSmallSums, IsSmallLineFit, IsSmallAlone};
 ghost use Rattle.break_core.specs.Private.Filling.{IsKind, IsJudged, IsOf, CanOffer, IsOffering, IsOfferingUnless, IsOfferingBest};
 ghost use Rattle.break_core.specs.Private.Offers.{shown_from, row_at, AreOffers, IsBefore, AreBefore, IsBetter, AreBetter, AreBestFor};
-ghost use Rattle.break_core.specs.Private.Offers.{AreNumbered, IsSameRow};
+ghost use Rattle.break_core.specs.Private.Offers.{AreNumbered, IsSameRow, IsLaterOrBetter};
 ghost use Rattle.break_core.specs.Private.Active.{is_limit, live_of, with_live};
-ghost use Rattle.break_core.specs.Private.Active.{HasBest, AreOffersBefore, CanOfferWaiting, IsOfferingEach, IsOfferingWaiting};
+ghost use Rattle.break_core.specs.Private.Active.{IsLeastOf, HasBest, AreOffersBefore, CanOfferWaiting, IsOfferingEach, IsOfferingWaiting};
 
 use crate::active_list::{Live, LiveGroups, remove_stopped};
 use crate::pass_rules::Rules;
-use crate::row::{Offer, Row, is_as_good, put_offer};
+use crate::row::{Offer, Row, is_as_good, put_offer, replaces};
 use break_lines::{
     ActiveGroup, Bound, Entry, Fitness, LineCost, LineFit, LineFits, Sums, fit_line, line_alone,
     offer,
@@ -387,10 +387,47 @@ pub(crate) fn offer_line(
     true
 }
 
-/// Offers the entries of groups that wait by a line, one after the other, if no lines are counted. The function is not inlined, so that its loop has
-/// all registers.
+/// The better one of two offers. The second one is of a later place, so of two with the same totals it is better.
+#[inline(always)]
+fn later_or_better(held: Offer, next: Offer) -> Offer
+    ensures { IsLaterOrBetter held next result }
+{
+    if replaces(held, next) {
+        return next;
+    }
+    held
+}
+
+/// The best one of the entries of a group before a line of the class with this number.
+#[inline(always)]
+fn best_at(live: &Live, slot: usize) -> Offer
+    requires { slot < 4 }
+    ensures { slice_get live.now.best slot ≡ Some result }
+{
+    live.best[slot]
+}
+
+/// The best one of the entries of these groups before a line of the class with this number.
+#[inline(always)]
+fn best_waiting(lives: &[Live], slot: usize) -> Offer
+    requires some { 0 < length lives.now }
+    requires slot_bounded { slot < 4 }
+    ensures { IsLeastOf lives.now (length lives.now) slot result }
+{
+    let mut best = best_at(&lives[0], slot);
+    for index in 1..lives.len() {
+        let next = best_at(&lives[index], slot);
+        let better = later_or_better(best, next);
+        best = better;
+    }
+    best
+}
+
+/// Offers the entries of groups that wait by a line, if no lines are counted. All offers are for one state then, so the best one is enough. The
+/// function is not inlined, so that its loop has all registers.
 #[inline(never)]
 fn offer_each_waiting(row: &mut Row, at: &TriedPlace, lives: &[Live], alone: LineCost)
+    requires some { 0 < length lives.now }
     requires can { CanOfferWaiting at.now.rules.now.params.now
         (row_at at.now.rules.now.params.now.first_lines at.now.table.now at.now.place row.old) at.now.table.now lives.now at.now.place }
     requires costs_bounded { IsSmallAlone alone }
@@ -401,10 +438,13 @@ fn offer_each_waiting(row: &mut Row, at: &TriedPlace, lives: &[Live], alone: Lin
         (row_at at.now.rules.now.params.now.first_lines at.now.table.now at.now.place row.new) }
     ensures held { at.now.rules.now.params.now.first_lines ≡ 0 → AreOffers at.now.table.now at.now.place row.new.offers }
 {
-    for index in 0..lives.len() {
-        let live = &lives[index];
-        offer_best(&mut row.offers, at, live, alone);
-    }
+    let best = best_waiting(lives, alone.class.class_index());
+    let offered = Offer {
+        overhang: best.overhang + alone.overhang,
+        demerits: best.demerits + alone.demerits,
+        index: best.index,
+    };
+    put_offer(&mut row.offers, alone.class, offered);
 }
 
 /// Whether entries were offered before, or were offered now.

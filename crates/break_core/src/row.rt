@@ -6,7 +6,7 @@ ghost use Rattle.break_lines.specs.Orders.{NotAfter};
 ghost use Rattle.break_lines.specs.Problems.{class_index, max_places, tie_numbers};
 ghost use Rattle.break_lines.specs.Tables.{Entry, slots, row_entries, IsPut};
 ghost use Rattle.break_lines.specs.Totals.{entry_with_totals};
-ghost use Rattle.break_core.specs.Private.Offers.{no_entry, totals_of, shown_offer, shown_from, row_at, IsOffer, AreOffers, IsAsGood, IsEmpty};
+ghost use Rattle.break_core.specs.Private.Offers.{no_entry, no_offer, totals_of, shown_offer, shown_from, row_at, IsOffer, AreOffers, IsAsGood, IsEmpty};
 ghost use Rattle.break_core.specs.Private.Offers.{IsAtMost, IsBelow};
 
 use break_lines::{Entry, Fitness, LineCost, empty_row, flush_row, order};
@@ -33,10 +33,10 @@ pub(crate) struct Row {
 }
 
 impl Offer {
-    /// No offer.
+    /// No offer. Its totals are the greatest ones, so that each offer replaces it.
     pub(crate) const NONE: Offer = Offer {
-        overhang: 0,
-        demerits: 0,
+        overhang: i64::MAX,
+        demerits: i64::MAX,
         index: NO_ENTRY,
     };
 }
@@ -85,17 +85,13 @@ pub(crate) fn is_as_good(table: &[Entry], first: Offer, second: Offer) -> bool
     wins_tie(table, first.index, second.index)
 }
 
-/// Whether an offer replaces the content of a slot: the slot has no offer, or this one is as good or better. Offers come in the order of the places
-/// before their last lines, and of two with the same totals the later one is better, so no entry is read.
+/// Whether an offer replaces the content of a slot: it is as good or better, as each one is if the slot has no offer. Offers come in the order of the
+/// places before their last lines, and of two with the same totals the later one is better, so no entry is read.
 #[inline(always)]
-fn replaces(held: Offer, offered: Offer) -> bool
-    ensures yes { result ≡ true → (held.index ≡ no_entry) ⊎ IsAtMost offered held }
-    ensures kept { result ≡ false → held.index < no_entry }
+pub(crate) fn replaces(held: Offer, offered: Offer) -> bool
+    ensures yes { result ≡ true → IsAtMost offered held }
     ensures no { result ≡ false → IsBelow held offered }
 {
-    if held.index == NO_ENTRY {
-        return true;
-    }
     if offered.overhang < held.overhang {
         return true;
     }
@@ -125,7 +121,7 @@ pub(crate) fn put_offer(offers: &mut [Offer; 4], class: Fitness, offered: Offer)
 fn move_offer(table: &mut Vec<Entry>, held: Offer, class: Fitness, place: usize)
     requires space { vec_len table.old < vec_capacity table.old }
     requires places { place ≤ max_places }
-    requires held { (held.index ≡ no_entry) ⊎ IsOffer table.old.items place class held }
+    requires held { (held ≡ no_offer) ⊎ IsOffer table.old.items place class held }
     ensures table { table.new.items ≡ table.old.items ++ row_entries (shown_offer table.old.items place class held ∷ []) }
     ensures len { vec_len table.new ≤ vec_len table.old + 1 }
     ensures capacity { vec_capacity table.new ≡ vec_capacity table.old }

@@ -28,7 +28,7 @@ use Rattle.break_core.specs.Trials.{is_overfull, IsStop, places_up_to, passes_ru
 use Rattle.break_core.specs.Private.LeftOut.{is_long, over_before, MayLeaveOut}
 use Rattle.break_core.specs.Private.Filling.{IsOf}
 use Rattle.break_core.specs.declared.row.Offer.{Offer}
-use Rattle.break_core.specs.Private.Offers.{AreOffers, AreBestFor}
+use Rattle.break_core.specs.Private.Offers.{AreOffers, AreBestFor, IsAtMost, IsBelow}
 
 -- Whether trying lines from a place stops after a line from there, which is overfull or not, and long or not.
 abbrev pub stops_after : StopRule → (overfull long : Bool) → Bool
@@ -182,6 +182,16 @@ AreRising lives =
 abbrev pub AreOffersBefore : (table : List Entry) → List Live → (k : ℕ) → List Offer → Type 0
 AreOffersBefore table lives k offers = (live : Live) → slice_get lives k ≡ Some live → AreOffers table live.group.place offers
 
+-- The best offer of the first n of these groups before a line of the class with this number; of two with the same totals the later one is better.
+pub record IsLeastOf (lives : List Live) (n slot : ℕ) (best : Offer) : Type 0 where
+  pub by : ℕ
+  pub live : Live
+  pub present : slice_get lives by ≡ Some live
+  pub is : slice_get live.best slot ≡ Some best
+  pub least :
+      (k : ℕ) (other : Live) → k < n → slice_get lives k ≡ Some other
+      → (o : Offer) × (slice_get other.best slot ≡ Some o) × (IsBelow best o ⊎ ((k ≤ by) × IsAtMost best o))
+
 -- The entries of groups that wait can be offered for a place, one group after the other.
 pub record CanOfferWaiting (params : Params) (row : List (Option Entry)) (table : List Entry) (lives : List Live) (place : ℕ) : Type 0 where
   pub wide : length row ≡ slots params.first_lines
@@ -197,25 +207,7 @@ HaveLine p params alone b groups =
     (k : ℕ) (g : ActiveGroup) → slice_get groups k ≡ Some g
     → (s : BreakState) → s.place ≡ g.place → p.line s b ≡ Some (line_after params s.class alone)
 
--- The rest of these groups from number `index` on, and the row after the offers of those before.
-pub record AreOfferedUpTo
-    (p : Problem) (stop : ℕ → ℕ → Bool) (table : List Entry) (b : ℕ) (groups : List ActiveGroup) (index : ℕ)
-    (row : List (Option Entry)) : Type 0 where
-  pub at : ℕ
-  pub low : ℕ
-  pub rest : IsActive p stop table b b at low (drop index groups)
-  pub held : IsRow p table b at row
-
--- The step from one row to another: the entries of the first groups of a list were offered by a line.
-abbrev pub IsOfferingFirst :
-    (table : List Entry) → Params → (alone : LineCost) → List Live → (place : ℕ) → (index : ℕ) → (old new : List (Option Entry)) → Type 0
-IsOfferingFirst table params alone lives place index old new =
-    (p : Problem) (stop : ℕ → ℕ → Bool) (at low : ℕ)
-    → p.cut ≡ params.first_lines → place ≤ p.places → HaveLine p params alone place (groups_of lives)
-    → IsActive p stop table place place at low (groups_of lives) → IsRow p table place at old
-    → AreOfferedUpTo p stop table place (groups_of lives) index new
-
--- The same for all groups of a list, after which there are no more offers.
+-- The step from one row to another: the entries of these groups were offered by a line, and there are no more offers.
 abbrev pub IsOfferingEach : (table : List Entry) → Params → (alone : LineCost) → List Live → (place : ℕ) → (old new : List (Option Entry)) → Type 0
 IsOfferingEach table params alone lives place old new =
     (p : Problem) (stop : ℕ → ℕ → Bool) (at low : ℕ)

@@ -17,6 +17,10 @@ use Rattle.break_core.specs.declared.row.Row.{Row}
 abbrev pub no_entry : ℕ
 no_entry = 18446744073709551615
 
+-- No offer: its totals are the greatest ones, so that each offer replaces it.
+abbrev pub no_offer : Offer
+no_offer = record { overhang = pos 9223372036854775807; demerits = pos 9223372036854775807; index = no_entry }
+
 -- The class with this number.
 abbrev pub class_of : ℕ → Fitness
 class_of zero = VeryLoose
@@ -57,7 +61,7 @@ pub record IsOffer (table : List Entry) (place : ℕ) (class : Fitness) (o : Off
 -- Each offer of a row is none, or stands for an entry.
 abbrev pub AreOffers : (table : List Entry) → (place : ℕ) → List Offer → Type 0
 AreOffers table place offers =
-    (class : Fitness) (o : Offer) → slice_get offers (class_index class) ≡ Some o → (o.index ≡ no_entry) ⊎ IsOffer table place class o
+    (class : Fitness) (o : Offer) → slice_get offers (class_index class) ≡ Some o → (o ≡ no_offer) ⊎ IsOffer table place class o
 
 -- The totals of the first offer are at most those of the second, or below them.
 abbrev pub IsAtMost : (first second : Offer) → Type 0
@@ -67,6 +71,10 @@ IsAtMost first second =
 abbrev pub IsBelow : (first second : Offer) → Type 0
 IsBelow first second =
     (first.overhang <ℤ second.overhang) ⊎ ((first.overhang ≡ second.overhang) × (first.demerits <ℤ second.demerits))
+
+-- The better one of two offers, of which the second is of a later place.
+abbrev pub IsLaterOrBetter : (held next r : Offer) → Type 0
+IsLaterOrBetter held next r = ((r ≡ next) × IsAtMost next held) ⊎ ((r ≡ held) × IsBelow held next)
 
 -- The numbers by which offers for one state are compared.
 abbrev pub offer_numbers : Offer → (before : Entry) → List ℤ
@@ -132,9 +140,6 @@ abbrev pub AreNumbered : (table : List Entry) → List Offer → Type 0
 AreNumbered table offers = (class : Fitness) (o : Offer) → slice_get offers (class_index class) ≡ Some o → o.index < length table
 
 -- A row without offers.
-abbrev pub no_offer : Offer
-no_offer = record { overhang = pos 0; demerits = pos 0; index = no_entry }
-
 abbrev pub no_offers : List Offer
 no_offers = no_offer ∷ no_offer ∷ no_offer ∷ no_offer ∷ []
 

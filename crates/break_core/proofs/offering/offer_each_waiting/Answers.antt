@@ -1,68 +1,121 @@
-use Rattle.std.proofs.Common.{◌<◌, ◌≤◌, length, rules, arith}
-use Rattle.std.proofs.lemmas.List.{length-map}
-use Rattle.std.proofs.lemmas.Option.{slice_get-get_or}
-use Rattle.break_core.specs.declared.active_list.Live.{Live}
+use Rattle.std.proofs.Common.{◌≡◌, ◌∙◌, ◌+◌, ◌+ℤ◌, to_z, of_z, w64, length, subst, ap, sym, arith}
+use Rattle.std.proofs.lemmas.Int.{ints}
+use Rattle.break_lines.specs.Problems.{class_index}
+use Rattle.break_lines.proofs.Entries.{get_at}
+use Rattle.break_core.specs.declared.row.Offer.{Offer}
 use Rattle.break_core.specs.declared.row.Row.{Row}
-use Rattle.break_core.specs.Private.Active.{groups_of}
-use Rattle.break_core.specs.Private.Offers.{row_at}
-use Rattle.break_core.proofs.BestEntries.{best_in_row}
-use Rattle.break_core.proofs.Waiting.{held_on, next_on, offered_none, offered_more, offered_all}
+use Rattle.break_core.specs.Private.Active.{IsLeastOf, IsOfferingEach}
+use Rattle.break_core.specs.Private.Offers.{row_at, shown_from}
+use Rattle.break_core.proofs.BestEntries.{offer_by, offer_stands}
+use Rattle.break_core.proofs.Offers.{offers_later, offers_put, row_uncounted}
+use Rattle.break_core.proofs.Suffix.{waiting_offered, rising_from, stands_later}
 use Rattle.break_core.proofs.offering.offer_each_waiting.Goals as goal
 
-pub loop-index-init : goal.loop-index-init
-loop-index-init c =
-    let params = c.args.at.now.rules.now.params.now in
-    let table = c.args.at.now.table.now in
-    let place = c.args.at.now.place in
-    record {
-      held = c.requires.held;
-      next = c.requires.next;
-      offered = offered_none table params c.args.alone c.args.lives.now place (row_at params.first_lines table place c.args.row.now);
-    }
-
-pub offer_best-requires-clause-entries : goal.offer_best-requires-clause-entries
-offer_best-requires-clause-entries c =
-    let within : c.loop-index.index < length c.args.lives.now = search rules in
-    (c.requires.can.each c.loop-index.index _ (slice_get-get_or c.args.lives.now c.loop-index.index _ within)).entries
-
-pub offer_best-requires-clause-best : goal.offer_best-requires-clause-best
-offer_best-requires-clause-best c =
-    let within : c.loop-index.index < length c.args.lives.now = search rules in
-    c.requires.can.best c.loop-index.index _ (slice_get-get_or c.args.lives.now c.loop-index.index _ within)
-    (c.requires.can.uncounted (omega (arith, within)))
-
-pub offer_best-requires-clause-held : goal.offer_best-requires-clause-held
-offer_best-requires-clause-held c =
-    let within : c.loop-index.index < length c.args.lives.now = search rules in
-    c.loop-index.invariant.next _ (slice_get-get_or c.args.lives.now c.loop-index.index _ within)
-
-pub loop-index-preserved : goal.loop-index-preserved
-loop-index-preserved c =
+pub overflow_add-offered : goal.overflow_add-offered
+overflow_add-offered c =
     let lives = c.args.lives.now in
-    let params = c.args.at.now.rules.now.params.now in
     let table = c.args.at.now.table.now in
-    let place = c.args.at.now.place in
-    let within : c.loop-index.index < length lives = search rules in
-    let none = c.requires.can.uncounted (omega (arith, within)) in
-    let now : Row = record { offers = c.offer_best.new.offers; counted = c.loop-index.row.counted } in
-    record {
-      held = λ _. held_on table place c.loop-index.index lives _ c.offer_best.new.offers (slice_get-get_or lives c.loop-index.index _ within)
-          c.requires.can.each c.offer_best.ensures.held;
-      next = next_on table c.loop-index.index lives _ c.offer_best.new.offers (slice_get-get_or lives c.loop-index.index _ within)
-          c.requires.can.rising c.offer_best.ensures.held;
-      offered = offered_more table params c.args.alone lives place c.loop-index.index _ (row_at params.first_lines table place c.args.row.now)
-          (row_at params.first_lines table place c.loop-index.row) (row_at params.first_lines table place now) none
-          (slice_get-get_or lives c.loop-index.index _ within)
-          (best_in_row params.first_lines table params _ place c.args.alone c.loop-index.row now none c.offer_best.ensures.row) c.loop-index.invariant.offered;
-    }
+    let alone = c.args.alone in
+    let b = c.best_waiting-best.result in
+    let none = c.requires.can.uncounted c.requires.some in
+    let least : IsLeastOf lives (length lives) (class_index alone.class) b =
+    subst (λ s. IsLeastOf lives (length lives) s b) c.class_index.ensures.rank c.best_waiting-best.ensures in
+    let is = c.requires.can.best least.by least.live least.present none alone.class b least.is in
+    omega (arith, ints, is.small.overhang.low, is.small.overhang.high, c.requires.costs_bounded.overhang.low, c.requires.costs_bounded.overhang.high)
+
+pub overflow_add-offered-2 : goal.overflow_add-offered-2
+overflow_add-offered-2 c =
+    let lives = c.args.lives.now in
+    let table = c.args.at.now.table.now in
+    let alone = c.args.alone in
+    let b = c.best_waiting-best.result in
+    let none = c.requires.can.uncounted c.requires.some in
+    let least : IsLeastOf lives (length lives) (class_index alone.class) b =
+    subst (λ s. IsLeastOf lives (length lives) s b) c.class_index.ensures.rank c.best_waiting-best.ensures in
+    let is = c.requires.can.best least.by least.live least.present none alone.class b least.is in
+    omega (arith, ints, is.small.demerits.low, is.small.demerits.high, c.requires.costs_bounded.demerits.low, c.requires.costs_bounded.demerits.high)
+
+pub put_offer-requires : goal.put_offer-requires
+put_offer-requires c =
+    let lives = c.args.lives.now in
+    let table = c.args.at.now.table.now in
+    let alone = c.args.alone in
+    let b = c.best_waiting-best.result in
+    let none = c.requires.can.uncounted c.requires.some in
+    let least : IsLeastOf lives (length lives) (class_index alone.class) b =
+    subst (λ s. IsLeastOf lives (length lives) s b) c.class_index.ensures.rank c.best_waiting-best.ensures in
+    let is = c.requires.can.best least.by least.live least.present none alone.class b least.is in
+    omega (arith, is.high, is.real)
 
 pub returns-clause-row : goal.returns-clause-row
 returns-clause-row c =
     let lives = c.args.lives.now in
-    let params = c.args.at.now.rules.now.params.now in
     let table = c.args.at.now.table.now in
+    let alone = c.args.alone in
+    let b = c.best_waiting-best.result in
+    let none = c.requires.can.uncounted c.requires.some in
+    let least : IsLeastOf lives (length lives) (class_index alone.class) b =
+    subst (λ s. IsLeastOf lives (length lives) s b) c.class_index.ensures.rank c.best_waiting-best.ensures in
+    let is = c.requires.can.best least.by least.live least.present none alone.class b least.is in
+    let overhang : to_z w64 (of_z w64 (to_z w64 (of_z w64 b.overhang) +ℤ to_z w64 (of_z w64 alone.overhang))) ≡ b.overhang +ℤ alone.overhang =
+    omega (arith, ints, is.small.overhang.low, is.small.overhang.high, c.requires.costs_bounded.overhang.low, c.requires.costs_bounded.overhang.high) in
+    let demerits : to_z w64 (of_z w64 (to_z w64 (of_z w64 b.demerits) +ℤ to_z w64 (of_z w64 alone.demerits))) ≡ b.demerits +ℤ alone.demerits =
+    omega (arith, ints, is.small.demerits.low, is.small.demerits.high, c.requires.costs_bounded.demerits.low, c.requires.costs_bounded.demerits.high) in
+    let offered : Offer =
+    record {
+      overhang = to_z w64 (of_z w64 (to_z w64 (of_z w64 b.overhang) +ℤ to_z w64 (of_z w64 alone.overhang)));
+      demerits = to_z w64 (of_z w64 (to_z w64 (of_z w64 b.demerits) +ℤ to_z w64 (of_z w64 alone.demerits)));
+      index = b.index;
+    } in
+    let made : offered ≡ offer_by b alone =
+    ap (λ x. record { overhang = x; demerits = offered.demerits; index = b.index }) overhang
+    ∙ ap (λ x. record { overhang = b.overhang +ℤ alone.overhang; demerits = x; index = b.index }) demerits in
+    let params = c.args.at.now.rules.now.params.now in
     let place = c.args.at.now.place in
-    let end : length lives ≤ c.loop-index.index = search rules in
-    let past : length (groups_of lives) ≤ c.loop-index.index = omega (arith, end, length-map lives (λ (x : Live). x.group)) in
-    offered_all table params c.args.alone lives place c.loop-index.index (row_at params.first_lines table place c.args.row.now)
-    (row_at params.first_lines table place c.loop-index.row) past c.loop-index.invariant.offered
+    let n = params.first_lines in
+    let old = c.args.row.now in
+    let new : Row = record { offers = c.put_offer.new.offers; counted = old.counted } in
+    let first = get_at lives 0 c.requires.some in
+    let low = first.0.group.place in
+    let shown : IsOfferingEach table params alone lives place (shown_from table place 0 old.offers) (shown_from table place 0 new.offers) =
+    waiting_offered table params lives place alone b offered (shown_from table place 0 old.offers) (shown_from table place 0 new.offers) none
+    c.requires.can.best c.requires.can.each least made
+    (λ e present. c.put_offer.ensures.put table low place e present
+    (omega (
+      arith,
+      rising_from lives least.by first.0 least.live c.requires.can.rising first.1 least.present,
+      ((c.requires.can.each least.by least.live least.present).entries b.index e is.low is.high present).0,
+    ))
+    (c.requires.next first.0 first.1)) in
+    subst (λ r. IsOfferingEach table params alone lives place r (row_at n table place new)) (sym (row_uncounted n table place old none))
+    (subst (λ r. IsOfferingEach table params alone lives place (shown_from table place 0 old.offers) r) (sym (row_uncounted n table place new none)) shown)
+
+pub returns-clause-held : goal.returns-clause-held
+returns-clause-held c = λ none_counted.
+    let lives = c.args.lives.now in
+    let table = c.args.at.now.table.now in
+    let alone = c.args.alone in
+    let b = c.best_waiting-best.result in
+    let none = c.requires.can.uncounted c.requires.some in
+    let least : IsLeastOf lives (length lives) (class_index alone.class) b =
+    subst (λ s. IsLeastOf lives (length lives) s b) c.class_index.ensures.rank c.best_waiting-best.ensures in
+    let is = c.requires.can.best least.by least.live least.present none alone.class b least.is in
+    let overhang : to_z w64 (of_z w64 (to_z w64 (of_z w64 b.overhang) +ℤ to_z w64 (of_z w64 alone.overhang))) ≡ b.overhang +ℤ alone.overhang =
+    omega (arith, ints, is.small.overhang.low, is.small.overhang.high, c.requires.costs_bounded.overhang.low, c.requires.costs_bounded.overhang.high) in
+    let demerits : to_z w64 (of_z w64 (to_z w64 (of_z w64 b.demerits) +ℤ to_z w64 (of_z w64 alone.demerits))) ≡ b.demerits +ℤ alone.demerits =
+    omega (arith, ints, is.small.demerits.low, is.small.demerits.high, c.requires.costs_bounded.demerits.low, c.requires.costs_bounded.demerits.high) in
+    let offered : Offer =
+    record {
+      overhang = to_z w64 (of_z w64 (to_z w64 (of_z w64 b.overhang) +ℤ to_z w64 (of_z w64 alone.overhang)));
+      demerits = to_z w64 (of_z w64 (to_z w64 (of_z w64 b.demerits) +ℤ to_z w64 (of_z w64 alone.demerits)));
+      index = b.index;
+    } in
+    let made : offered ≡ offer_by b alone =
+    ap (λ x. record { overhang = x; demerits = offered.demerits; index = b.index }) overhang
+    ∙ ap (λ x. record { overhang = b.overhang +ℤ alone.overhang; demerits = x; index = b.index }) demerits in
+    let place = c.args.at.now.place in
+    let can = c.requires.can.each least.by least.live least.present in
+    offers_put table place c.args.row.now.offers c.put_offer.new.offers alone.class offered (c.requires.held none)
+    (stands_later table (least.live.group.place + 1) place alone.class offered (omega (arith, can.earlier))
+    (offer_stands table c.args.at.now.rules.now.params.now least.live alone b offered can.entries is c.requires.costs_bounded made))
+    c.put_offer.ensures.either

@@ -1,6 +1,7 @@
 use Rattle.std.proofs.Common.{◌≡◌, ◌∙◌, get_or, refl, ap, sym, subst, arith, Some}
-use Rattle.std.specs.Prelude.{pos, set, slice_get}
+use Rattle.std.specs.Prelude.{◌≤ℤ◌, pos, set, slice_get}
 use Rattle.std.proofs.Math.Logic.{inl, inr}
+use Rattle.std.proofs.lemmas.Int.{ints}
 use Rattle.std.proofs.lemmas.Option.{slice_get-get_or}
 use Rattle.break_lines.specs.Problems.{class_index}
 use Rattle.break_lines.specs.Tables.{IsPut}
@@ -28,13 +29,15 @@ returns-then-replaces-clause-put c = λ table low place e present later are.
 
 pub returns-else-replaces-clause-put : goal.returns-else-replaces-clause-put
 returns-else-replaces-clause-put c = λ table low place e present later are.
+    let few_overhang : c.args.offered.overhang ≤ℤ pos 9223372036854775807 = omega (arith, ints) in
+    let few_demerits : c.args.offered.demerits ≤ℤ pos 9223372036854775807 = omega (arith, ints) in
     let offers = c.args.offers.now in
     let slot = c.class_index-slot.result in
     let class = c.args.class in
     let at : slice_get offers (class_index class) ≡ Some (get_or offers slot none) =
     ap (slice_get offers) (sym c.class_index-slot.ensures.rank)
     ∙ slice_get-get_or offers slot none (omega (arith, c.class_index-slot.ensures.rank_bounded, c.told-offers)) in
-    put_kept table low place offers class (get_or offers slot none) c.args.offered e at present (c.replaces.ensures.kept c.if-replaces.false) are
+    put_kept table low place offers class (get_or offers slot none) c.args.offered e at present few_overhang few_demerits are
     (c.replaces.ensures.no c.if-replaces.false)
 
 pub returns-then-replaces-clause-either : goal.returns-then-replaces-clause-either
