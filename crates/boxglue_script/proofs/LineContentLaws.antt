@@ -1,5 +1,5 @@
 -- What the lines of an input say.
-use Rattle.std.proofs.Common.{◌≡◌, inl, inr, ℕ, ◌+◌, Bool, true, false, List, [], ◌∷◌, ◌++◌, Result, Ok, Err, IsOk, IfOk, OnErr, refl, ap, sym, ◌∙◌}
+use Rattle.std.proofs.Common.{◌≡◌, inl, inr, ℕ, ◌+◌, Bool, true, false, List, [], ◌∷◌, ◌++◌, Result, Ok, Err, IfOk, OnErr, refl, ap, sym, ◌∙◌}
 use Rattle.std.proofs.Common.{subst, append_assoc}
 use Rattle.std.specs.Str.Lines.{lines}
 use Rattle.job_machine.specs.declared.command.Command.{Command as ACommand}
@@ -9,11 +9,11 @@ use Rattle.boxglue_script.specs.declared.line_content.LineContent.{LineContent}
 use Rattle.boxglue_script.specs.declared.line_content.LineContent.TheVariants.{Nothing, Command, Bad}
 use Rattle.boxglue_script.specs.ScriptLines.{is_passed_over}
 use Rattle.boxglue_script.specs.Causes.{IsCause}
-use Rattle.boxglue_script.specs.Script.{SaysLine, SayFrom}
+use Rattle.boxglue_script.specs.Script.{HoldsBytes, SaysLine, SayFrom}
 use Rattle.boxglue_script.specs.LineContents.{Says, SayEach, SayOne, IsWhole, lines_said, has_no_bad}
 use Rattle.boxglue_script.specs.declared.script.ScriptFault.TheVariants.{BadScript}
 use Rattle.boxglue_script.specs.Private.Reading.{command_of_line, content_of, LinesOrFault, lines_then, reading_from, GivesCommand, ReadsOn}
-use Rattle.boxglue_script.specs.Private.Reading.{HasFaultAtLine}
+use Rattle.boxglue_script.specs.Private.Reading.{HasFaultAtLine, ReadsBytes}
 use Rattle.boxglue_script.proofs.LineLemmas.{lines_joined}
 use Rattle.boxglue_script.proofs.ScriptLaws.{line_said, line_read, line_fault}
 use Rattle.boxglue_script.proofs.OneCause.{one_line_cause, not_said}
@@ -124,23 +124,24 @@ said_script number (line ∷ all) (Bad cause ∷ said) h good = absurd (true_not
 pub gives_read : (line : List ℕ) (command : ACommand) → SaysLine line command → GivesCommand line
 gives_read line command h = (h.counted, rw (line_read line command h) refl)
 
-read_command : (r : Result ACommand Cause) → IsOk r → (command : ACommand) × (r ≡ Ok command)
-read_command (Ok command) is = (command, refl)
-read_command (Err cause) is = absurd (cc)
+read_bytes : (r : Result ACommand Cause) → ReadsBytes r → (command : ACommand) × (r ≡ Ok command) × HoldsBytes command
+read_bytes (Ok command) holds = (command, refl, holds)
+read_bytes (Err cause) holds = absurd holds
 
--- A line of which a command is read gives one.
-pub read_gives : (line : List ℕ) → is_passed_over line ≡ false → IsOk (command_of_line line) → (command : ACommand) × SaysLine line command
-read_gives line counted is = let (command, read) = read_command (command_of_line line) is in (command, line_said line command counted read)
+-- A line of which a command with bytes is read gives one.
+bytes_given : (line : List ℕ) → is_passed_over line ≡ false → ReadsBytes (command_of_line line) → (command : ACommand) × SaysLine line command × HoldsBytes command
+bytes_given line counted reads =
+    let (command, read, holds) = read_bytes (command_of_line line) reads in (command, line_said line command counted read, holds)
 
 pub on_any_err : {A E : Type 0} {P : Type 0} (r : Result A E) → P → OnErr r P
 on_any_err (Ok x) p = tt
 on_any_err (Err e) p = p
 
--- A line for which memory is refused gives a command.
-pub refused_gives : {A E : Type 0} (line : List ℕ) (r : Result A E) → is_passed_over line ≡ false → OnErr r (IsOk (command_of_line line))
-    → OnErr r ((command : ACommand) × SaysLine line command)
-refused_gives line (Ok x) counted is = tt
-refused_gives line (Err e) counted is = read_gives line counted is
+-- A line for which memory is refused gives a command with bytes.
+pub refused_gives : {A E : Type 0} (line : List ℕ) (r : Result A E) → is_passed_over line ≡ false → OnErr r (ReadsBytes (command_of_line line))
+    → OnErr r ((command : ACommand) × SaysLine line command × HoldsBytes command)
+refused_gives line (Ok x) counted reads = tt
+refused_gives line (Err e) counted reads = bytes_given line counted reads
 
 -- What a line says is the only thing that it says.
 pub said_alone : {E : Type 0} (line : List ℕ) (r : Result LineContent E) → IfOk r (Says line)

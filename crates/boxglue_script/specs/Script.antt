@@ -3,7 +3,7 @@ use Rattle.std.specs.Prelude.{◌≡◌, ◌⊎◌, ℕ, ◌+◌, true, false, L
 use Rattle.std.specs.List.{AllByRecursion}
 use Rattle.std.specs.Str.Lines.{lines}
 use Rattle.job_machine.specs.declared.command.Command.{Command}
-use Rattle.job_machine.specs.declared.command.Command.TheVariants.{Text, Special}
+use Rattle.job_machine.specs.declared.command.Command.TheVariants.{LoadFont, Text, Special}
 use Rattle.boxglue_script.specs.declared.cause.Cause.{Cause}
 use Rattle.boxglue_script.specs.declared.script.Line.{Line}
 use Rattle.boxglue_script.specs.declared.script.ScriptFault.{ScriptFault}
@@ -27,6 +27,13 @@ pub record SaysLine (line : List ℕ) (command : Command) : Type 0 where
   pub counted : is_passed_over line ≡ false
   pub printable : IsPrintable line
   pub says : Gives line command
+
+-- A command that holds bytes of its line: a text, a special, or the name of a font.
+abbrev pub HoldsBytes : Command → Type 0
+HoldsBytes (LoadFont load) = Unit {0}
+HoldsBytes (Text text) = Unit {0}
+HoldsBytes (Special text) = Unit {0}
+HoldsBytes command = ⊥
 
 -- Lines, the first of them with this number, that give these commands.
 abbrev pub SayFrom : ℕ → List (List ℕ) → List Line → Type 0

@@ -1,6 +1,6 @@
 //! The commands that the fields of a line give.
 
-ghost use Rattle.std.specs.Prelude.{◌≡◌, Ok, Err, IfOk, IfErr, IsOk, OnErr};
+ghost use Rattle.std.specs.Prelude.{◌≡◌, Ok, Err, IfOk, IfErr, OnErr};
 ghost use Rattle.tfm_core.specs.NamedBytes.{IsFontName};
 ghost use Rattle.job_machine.specs.declared.command.Command.TheVariants as commands;
 ghost use Rattle.boxglue_script.specs.Grammar.{register_count};
@@ -11,7 +11,7 @@ ghost use Rattle.boxglue_script.specs.Private.Reading.{last_penalty, last_amount
 ghost use Rattle.boxglue_script.specs.Private.Reading.{shift_of};
 ghost use Rattle.boxglue_script.specs.Private.Reading.{append_of, unboxing_command, split_into, split_height, split_to, split_of, glue, shrink_of};
 ghost use Rattle.boxglue_script.specs.Private.Reading.{last_shrink_of, parts_of, glue_of, parameter_of, rule_of, command_named, command_by};
-ghost use Rattle.boxglue_script.specs.Private.Reading.{first_word, content_of};
+ghost use Rattle.boxglue_script.specs.Private.Reading.{first_word, content_of, ReadsBytes};
 
 use crate::amounts::Amount;
 use crate::cause::Cause;
@@ -61,7 +61,7 @@ impl<'a> Fields<'a> {
     /// The command of what follows `font`. The error is a refused growth, for the name or its place, so only where there is such a command.
     fn font(&mut self, alloc: Global) -> Result<LineContent, AllocError>
         ensures read { IfOk result (λ content. content ≡ content_of (font_of (fields_of self.old.rest.now))) }
-        ensures memory { OnErr result (IsOk (font_of (fields_of self.old.rest.now))) }
+        ensures memory { OnErr result (ReadsBytes (font_of (fields_of self.old.rest.now))) }
     {
         match self.font_words() {
             Ok(words) => Ok(LineContent::Command(Command::LoadFont(words.load(alloc)?))),
@@ -294,11 +294,11 @@ impl<'a> Fields<'a> {
         }))
     }
 
-    /// The command of that name with the fields after it. The error is a refused growth, only where there is such a command.
+    /// The command of that name with the fields after it. The error is a refused growth, only for a font.
     #[tactic(auto, unfolding(crate::specs::Private::Reading::command_named))]
     fn command_named(&mut self, alloc: Global, name: Name) -> Result<LineContent, AllocError>
         ensures read { IfOk result (λ content. content ≡ content_of (command_named name (fields_of self.old.rest.now))) }
-        ensures memory { OnErr result (IsOk (command_named name (fields_of self.old.rest.now))) }
+        ensures memory { OnErr result (ReadsBytes (command_named name (fields_of self.old.rest.now))) }
     {
         match name {
             Name::Font => self.font(alloc),
@@ -326,10 +326,10 @@ impl<'a> Fields<'a> {
     }
 
     /// The command that a first word and the fields after it give, or the cause at the first bad field from the left. Where there is no field the
-    /// word is empty. The error is a refused growth, only where they give a command.
+    /// word is empty. The error is a refused growth, only for a font.
     pub fn command(&mut self, alloc: Global, word: &[u8]) -> Result<LineContent, AllocError>
         ensures read { IfOk result (λ content. content ≡ content_of (command_by (first_word word.now) (fields_of self.old.rest.now))) }
-        ensures memory { OnErr result (IsOk (command_by (first_word word.now) (fields_of self.old.rest.now))) }
+        ensures memory { OnErr result (ReadsBytes (command_by (first_word word.now) (fields_of self.old.rest.now))) }
     {
         if word.is_empty() {
             return Ok(LineContent::Bad(Cause::Missing));

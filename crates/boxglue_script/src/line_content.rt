@@ -1,14 +1,14 @@
 //! What one line of an input says.
 
-ghost use Rattle.std.specs.Prelude.{◌≡◌, drop, true, IfOk, OnErr, IsOk};
+ghost use Rattle.std.specs.Prelude.{◌≡◌, drop, true, IfOk, OnErr};
 ghost use Rattle.std.specs.List.{list_all};
 ghost use Rattle.job_machine.specs.declared.command.Command.{Command as ACommand};
 ghost use Rattle.boxglue_script.specs.declared.line_content.LineContent.{LineContent as ALineContent};
 ghost use Rattle.boxglue_script.specs.ScriptLines.{is_printable};
 ghost use Rattle.boxglue_script.specs.Causes.{IsPrintable};
-ghost use Rattle.boxglue_script.specs.Script.{SaysLine};
+ghost use Rattle.boxglue_script.specs.Script.{HoldsBytes, SaysLine};
 ghost use Rattle.boxglue_script.specs.LineContents.{Says};
-ghost use Rattle.boxglue_script.specs.Private.Reading.{command_of_line, content_of};
+ghost use Rattle.boxglue_script.specs.Private.Reading.{command_of_line, content_of, ReadsBytes};
 
 use crate::cause::Cause;
 use crate::fields::Fields;
@@ -27,11 +27,11 @@ pub enum LineContent {
     Bad(Cause),
 }
 
-/// Reads one line, without its end. The error is a refused growth, only where the line gives a command.
+/// Reads one line, without its end. The error is a refused growth, only where the line gives a text, a special or a font.
 pub fn read_line(alloc: Global, line: &[u8]) -> Result<LineContent, AllocError>
     ensures said { IfOk result (Says line.now) }
     ensures only { IfOk result (λ said. (other : ALineContent) → Says line.now other → other ≡ said) }
-    ensures memory { OnErr result ((command : ACommand) × SaysLine line.now command) }
+    ensures memory { OnErr result ((command : ACommand) × SaysLine line.now command × HoldsBytes command) }
 {
     read_line_of(alloc, line, false)
 }
@@ -45,7 +45,7 @@ pub(crate) fn read_line_of(
     requires { plain ≡ true → IsPrintable line.now }
     ensures said { IfOk result (Says line.now) }
     ensures only { IfOk result (λ said. (other : ALineContent) → Says line.now other → other ≡ said) }
-    ensures memory { OnErr result ((command : ACommand) × SaysLine line.now command) }
+    ensures memory { OnErr result ((command : ACommand) × SaysLine line.now command × HoldsBytes command) }
 {
     if is_passed_over(line) {
         return Ok(LineContent::Nothing);
@@ -80,12 +80,12 @@ fn text_of(alloc: Global, rest: &[u8]) -> Result<Characters, AllocError>
 
 /// What a line says that is not passed over: its command, or the cause why it has none. Byte comes first, since a line with a byte that is not
 /// printable is not cut into fields. A text may have any length here: how long a special may be is a limit of the job, so the other commands run. The
-/// error is a refused growth, only where the line gives a command.
+/// error is a refused growth, only for a text, a special or a font.
 #[tactic(auto, unfolding(crate::specs::Private::Reading::command_of_line, crate::specs::Private::Reading::command_of_printable))]
 fn command_of(alloc: Global, line: &[u8], plain: bool) -> Result<LineContent, AllocError>
     requires { plain ≡ true → IsPrintable line.now }
     ensures read { IfOk result (λ content. content ≡ content_of (command_of_line line.now)) }
-    ensures memory { OnErr result (IsOk (command_of_line line.now)) }
+    ensures memory { OnErr result (ReadsBytes (command_of_line line.now)) }
 {
     if !has_printable_bytes(line, plain) {
         return Ok(LineContent::Bad(Cause::Byte));

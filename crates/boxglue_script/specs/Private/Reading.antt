@@ -41,6 +41,7 @@ use Rattle.boxglue_script.specs.ParameterNames.{size_name, skip_name, number_nam
 use Rattle.boxglue_script.specs.Private.ParameterNames.{names_first_lines}
 use Rattle.boxglue_script.specs.ScriptLines.{is_space, is_printable, is_passed_over, fields_of}
 use Rattle.boxglue_script.specs.Grammar.{register_count, slot_count, character_count, counter_count, first_lines_count, is_name_byte}
+use Rattle.boxglue_script.specs.Script.{HoldsBytes}
 
 -- A byte before the end of a line: any but a line feed.
 abbrev pub in_line : ℕ → Bool
@@ -477,6 +478,11 @@ command_of_printable line =
 -- The command of a line, or the cause why it has none.
 unfoldable pub command_of_line : List ℕ → Result Command Cause
 command_of_line line = if list_all is_printable line then command_of_printable line else Err Byte
+
+-- A command was read that holds bytes of its line.
+abbrev pub ReadsBytes : Result Command Cause → Type 0
+ReadsBytes (Err cause) = ⊥
+ReadsBytes (Ok command) = HoldsBytes command
 
 -- What a line says that is not passed over, by what was read of it: its command, or the cause why it has none.
 abbrev pub content_of : Result Command Cause → LineContent
