@@ -172,20 +172,30 @@ fn marked_fresh(
     Ok(slots)
 }
 
-/// The slots of the fonts that a body selects and that are not defined yet, in rising order; and the greatest number of pushes that are open at once.
-/// One pass over the instructions that are no characters gives both.
+/// What is new in a body: the slots of the fonts that it selects and that are not defined yet, in rising order; and its depth, the greatest number of
+/// pushes that are open at once.
+#[derive(Drop)]
+pub struct FreshFonts {
+    pub slots: Vec<u8>,
+    pub deepest: usize,
+}
+
+/// The fresh fonts and the depth of a body. One pass over the instructions that are no characters gives both.
 pub fn fresh_slots(
     alloc: Global,
     fonts: &Fonts,
     defined: &[u8],
     body: &PageRuns<'_>,
-) -> Result<(Vec<u8>, usize), AllocError>
-    ensures slots { IfOk result (λ found. found.0.items ≡ fresh_slots fonts.now defined.now (instructions_of body.now)) }
-    ensures deepest { IfOk result (λ found. (forest : Forest) → instructions_of body.now ≡ flat forest → found.1 ≡ nests forest) }
+) -> Result<FreshFonts, AllocError>
+    ensures slots { IfOk result (λ fresh. fresh.slots.items ≡ fresh_slots fonts.now defined.now (instructions_of body.now)) }
+    ensures deepest { IfOk result (λ fresh. (forest : Forest) → instructions_of body.now ≡ flat forest → fresh.deepest ≡ nests forest) }
 {
     let passed = pass_over(&body.ops);
     let slots = marked_fresh(alloc, fonts, defined, &passed)?;
-    Ok((slots, passed.deepest))
+    Ok(FreshFonts {
+        slots,
+        deepest: passed.deepest,
+    })
 }
 
 /// The slots of the fonts that are defined, in rising order.

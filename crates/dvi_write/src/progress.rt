@@ -268,12 +268,12 @@ impl Progress {
             ≡ (if is_huge (shipped_page page.now) then WriteFault.HugePage else WriteFault.OutOfMemory)) }
     {
         let body = written_body(alloc, page)?;
-        let (fresh, deepest) = fresh_slots(alloc, fonts, self.defined.as_slice(), &body)?;
-        let laid_out = self.lay_out(alloc, fonts, &fresh, &page.counts, &body)?;
+        let fresh = fresh_slots(alloc, fonts, self.defined.as_slice(), &body)?;
+        let laid_out = self.lay_out(alloc, fonts, &fresh.slots, &page.counts, &body)?;
         let mut after = self.copy();
-        after.keep_size(&fresh, laid_out.bop, laid_out.size, page.load);
+        after.keep_size(&fresh.slots, laid_out.bop, laid_out.size, page.load);
         after.keep_reach(page);
-        after.keep_depth(deepest);
+        after.keep_depth(fresh.deepest);
         Ok(NextPage {
             bytes: laid_out.bytes,
             after,
