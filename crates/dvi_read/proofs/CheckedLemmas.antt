@@ -22,7 +22,7 @@ use Rattle.dvi_scan.specs.Reached.{IsReached, PlacesLeft, ReadSoFar, all_left}
 use Rattle.dvi_read.specs.Opening.{IsDviFault}
 use Rattle.dvi_read.specs.Private.OpeningParts.{HasPassed, IsFinishFault}
 use Rattle.dvi_read.specs.PageMarks.{HasGlyphWidths, HasSpaceFor, IsGlyphWidth, marks_of, read_width}
-use Rattle.dvi_read.specs.ReadFonts.{AreSound, FontIsRead, font_place, read_font_at, width_in}
+use Rattle.dvi_read.specs.ReadFonts.{AreSound, FontIsRead, font_index, read_font_at, width_in}
 use Rattle.dvi_read.specs.ItemsLeft.{HasRest}
 use Rattle.dvi_read.specs.Steps.{FontsAreRead, known_of, places_left, pass_state_of}
 use Rattle.dvi_read.specs.WalkFaults.{PagesHaveEnded}
@@ -42,9 +42,9 @@ use Rattle.tfm_core.specs.NamedBytes.{NamedBytes}
 -- A font that was read has the widths of the files.
 same_read : (metrics : WidthsByName) (table : List Definition) (fonts : ReadFonts) (f : ℤ) → AreSound metrics table fonts → FontIsRead f fonts → SameWidths (widths_of metrics table) (read_width fonts) f
 same_read metrics table fonts f sound is_read c =
-    let (place, at) = some_is (font_place f fonts) is_read in
-    let (read, there, widths) = sound.widths f place at in
-    let found : option_and_then (read_font_at fonts) (font_place f fonts) ≡ Some read = ap (λ (o : Option ℕ). option_and_then (read_font_at fonts) o) at ∙ there in
+    let (index, at) = some_is (font_index f fonts) is_read in
+    let (read, there, widths) = sound.widths f index at in
+    let found : option_and_then (read_font_at fonts) (font_index f fonts) ≡ Some read = ap (λ (o : Option ℕ). option_and_then (read_font_at fonts) o) at ∙ there in
     ap (λ (o : Option (ℤ → Option ℤ)). width_of_font o c) widths ∙ sym (ap (λ (o : Option SizedFont). width_in o c) found)
 
 -- The instructions after the preamble make the pages of the file.

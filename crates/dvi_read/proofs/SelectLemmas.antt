@@ -13,8 +13,8 @@ use Rattle.dvi_ops.specs.Instruction.{Definition}
 use Rattle.dvi_scan.specs.Reached.{has_number}
 use Rattle.dvi_scan.proofs.FontLemmas.{defined_more, has_definition, some_definition}
 use Rattle.dvi_read.specs.Private.Faults.{of_read}
-use Rattle.dvi_read.specs.ReadFonts.{AreSound, AreUnchanged, HasWidthsAt, HaveByteCodes, FontIsRead, read_font_at, font_place}
-use Rattle.dvi_read.specs.Private.ReadFonts.{IsPlaceOfSame}
+use Rattle.dvi_read.specs.ReadFonts.{AreSound, AreUnchanged, HasWidthsAt, HaveByteCodes, FontIsRead, read_font_at, font_index}
+use Rattle.dvi_read.specs.Private.ReadFonts.{IsIndexOfSame}
 use Rattle.dvi_read.specs.declared.fonts.ReadFonts.{ReadFonts}
 use Rattle.dvi_read.specs.Steps.{IsSelectFault, Selects}
 use Rattle.dvi_read.specs.declared.fault.StepFault.TheVariants.{Pass, Font}
@@ -55,12 +55,12 @@ item_back (z ∷ xs) x y zero e = inl e
 item_back (z ∷ xs) x y (suc k) e = item_back xs x y k e
 
 -- The font was read before.
-pub selects_read : (metrics : WidthsByName) (after_post : List ℤ) (known : List Definition) (f : ℤ) (place : ℕ) (fonts new : ReadFonts)
+pub selects_read : (metrics : WidthsByName) (after_post : List ℤ) (known : List Definition) (f : ℤ) (index : ℕ) (fonts new : ReadFonts)
     → AreSound metrics known fonts → has_number after_post f ≡ true
-    → font_place f fonts ≡ Some place → new ≡ record fonts { current = place } → Selects metrics after_post known f fonts new
-selects_read metrics after_post known f place fonts new sound named there is =
-    let (read, e, widths) = sound.widths f place there in
-    let chosen : Selects metrics after_post known f fonts (record fonts { current = place }) = record {
+    → font_index f fonts ≡ Some index → new ≡ record fonts { current = index } → Selects metrics after_post known f fonts new
+selects_read metrics after_post known f index fonts new sound named there is =
+    let (read, e, widths) = sound.widths f index there in
+    let chosen : Selects metrics after_post known f fonts (record fonts { current = index }) = record {
       named = named;
       widths = is_some (font metrics known f) (width_at read) widths;
       current = there;
@@ -69,22 +69,22 @@ selects_read metrics after_post known f place fonts new sound named there is =
     } in
     subst (λ (now : ReadFonts). Selects metrics after_post known f fonts now) (sym is) chosen
 
--- A number has the place that was set for it, and each other number has its old place.
-by_number : (P : ℤ → ℕ → Type 0) (b : Bool) (f g : ℤ) (mine place : ℕ) (rest : Option ℕ) → int_eq f g ≡ b → P f mine → (rest ≡ Some place → P g place) → cond b (Some mine) rest ≡ Some place
-    → P g place
-by_number P true f g mine place rest same here later e = let one : mine ≡ place = cc in subst₂ P ((Decides-int_eq f g).0 same) one here
-by_number P false f g mine place rest same here later e = later e
+-- A number has the index that was set for it, and each other number has its old index.
+by_number : (P : ℤ → ℕ → Type 0) (b : Bool) (f g : ℤ) (mine index : ℕ) (rest : Option ℕ) → int_eq f g ≡ b → P f mine → (rest ≡ Some index → P g index) → cond b (Some mine) rest ≡ Some index
+    → P g index
+by_number P true f g mine index rest same here later e = let one : mine ≡ index = cc in subst₂ P ((Decides-int_eq f g).0 same) one here
+by_number P false f g mine index rest same here later e = later e
 
 number_kept : (b : Bool) (mine : ℕ) (rest : Option ℕ) → IsSome rest → IsSome (cond b (Some mine) rest)
 number_kept true mine rest some = refl
 number_kept false mine rest some = some
 
--- A number gets the place of a font that has its widths, and the fonts that were there stay.
+-- A number gets the index of a font that has its widths, and the fonts that were there stay.
 module _ (metrics : WidthsByName) (after_post : List ℤ) (known : List Definition) (f : ℤ) (old new : ReadFonts) (mine : ℕ) (read : SizedFont)
-    (sound : AreSound metrics known old) (updates : Updates int_cmp old.places new.places f (Some mine))
-    (stays : (place : ℕ) (other : SizedFont) → read_font_at old place ≡ Some other → read_font_at new place ≡ Some other) where
-  before_it : (g : ℤ) (place : ℕ) → font_place g old ≡ Some place → HasWidthsAt metrics known new g place
-  before_it g place later = let (other, e, w) = sound.widths g place later in (other, stays place other e, w)
+    (sound : AreSound metrics known old) (updates : Updates int_cmp old.indices new.indices f (Some mine))
+    (stays : (index : ℕ) (other : SizedFont) → read_font_at old index ≡ Some other → read_font_at new index ≡ Some other) where
+  before_it : (g : ℤ) (index : ℕ) → font_index g old ≡ Some index → HasWidthsAt metrics known new g index
+  before_it g index later = let (other, e, w) = sound.widths g index later in (other, stays index other e, w)
 
   pub selects_at : has_number after_post f ≡ true → new.current ≡ mine → read_font_at new mine ≡ Some read → font metrics known f ≡ Some (width_at read)
       → HaveByteCodes new → Selects metrics after_post known f old new
@@ -93,25 +93,25 @@ module _ (metrics : WidthsByName) (after_post : List ℤ) (known : List Definiti
     widths = is_some (font metrics known f) (width_at read) widths;
     current = updates.1 ∙ ap (λ (n : ℕ). Some n) (sym current);
     sound = record {
-      widths = λ g place at.
-          by_number (HasWidthsAt metrics known new) (int_eq f g) f g mine place (font_place g old) refl (read, last, widths) (before_it g place) (sym (updates.0 g) ∙ at);
+      widths = λ g index at.
+          by_number (HasWidthsAt metrics known new) (int_eq f g) f g mine index (font_index g old) refl (read, last, widths) (before_it g index) (sym (updates.0 g) ∙ at);
       codes = codes;
     };
-    kept = λ g some. subst (λ (o : Option ℕ). IsSome o) (sym (updates.0 g)) (number_kept (int_eq f g) mine (font_place g old) some);
+    kept = λ g some. subst (λ (o : Option ℕ). IsSome o) (sym (updates.0 g)) (number_kept (int_eq f g) mine (font_index g old) some);
   }
 
--- The fonts, their places and the selected one are unchanged.
+-- The fonts, their indices and the selected one are unchanged.
 module _ (old mid : ReadFonts) (same : AreUnchanged old mid) where
-  place_stays : (g : ℤ) → font_place g mid ≡ font_place g old
-  place_stays g = ap (λ (entries : List (ℤ × ℕ)). lookup (is_at (int_cmp g)) entries) same.places
+  index_stays : (g : ℤ) → font_index g mid ≡ font_index g old
+  index_stays g = ap (λ (entries : List (ℤ × ℕ)). lookup (is_at (int_cmp g)) entries) same.indices
 
-  font_stays : (place : ℕ) → read_font_at mid place ≡ read_font_at old place
-  font_stays place = ap (λ (fonts : List SizedFont). slice_get fonts place) same.all
+  font_stays : (index : ℕ) → read_font_at mid index ≡ read_font_at old index
+  font_stays index = ap (λ (fonts : List SizedFont). slice_get fonts index) same.all
 
   pub sound_stays : (metrics : WidthsByName) (known : List Definition) → AreSound metrics known old → AreSound metrics known mid
   sound_stays metrics known sound = record {
-    widths = λ g place at. (let (read, e, w) = sound.widths g place (sym (place_stays g) ∙ at) in (read, font_stays place ∙ e, w));
-    codes = λ place other e. sound.codes place other (sym (font_stays place) ∙ e);
+    widths = λ g index at. (let (read, e, w) = sound.widths g index (sym (index_stays g) ∙ at) in (read, font_stays index ∙ e, w));
+    codes = λ index other e. sound.codes index other (sym (font_stays index) ∙ e);
   }
 
   pub selects_on : (metrics : WidthsByName) (after_post : List ℤ) (known : List Definition) (f : ℤ) (new : ReadFonts)
@@ -121,19 +121,19 @@ module _ (old mid : ReadFonts) (same : AreUnchanged old mid) where
     widths = selects.widths;
     current = selects.current;
     sound = selects.sound;
-    kept = λ g some. selects.kept g (subst (λ (o : Option ℕ). IsSome o) (sym (place_stays g)) some);
+    kept = λ g some. selects.kept g (subst (λ (o : Option ℕ). IsSome o) (sym (index_stays g)) some);
   }
 
 -- The font is read now.
 module _ (files : List NamedBytes) (after_post : List ℤ) (known : List Definition) (d : Definition) (f : ℤ) (old new : ReadFonts) (read : SizedFont)
     (sound : AreSound (file_widths files) known old)
-    (updates : Updates int_cmp old.places new.places f (Some (length old.all.items))) (all : new.all.items ≡ old.all.items ++ read ∷ []) where
-  stays_before : (place : ℕ) (other : SizedFont) → read_font_at old place ≡ Some other → read_font_at new place ≡ Some other
-  stays_before place other e = ap (λ (fonts : List SizedFont). slice_get fonts place) all ∙ item_before old.all.items read other place e
+    (updates : Updates int_cmp old.indices new.indices f (Some (length old.all.items))) (all : new.all.items ≡ old.all.items ++ read ∷ []) where
+  stays_before : (index : ℕ) (other : SizedFont) → read_font_at old index ≡ Some other → read_font_at new index ≡ Some other
+  stays_before index other e = ap (λ (fonts : List SizedFont). slice_get fonts index) all ∙ item_before old.all.items read other index e
 
-  by_item : (place : ℕ) (other : SizedFont) → HasBytes read → (read_font_at old place ≡ Some other) ⊎ (read ≡ other) → HasBytes other
-  by_item place other codes (inl e) = sound.codes place other e
-  by_item place other codes (inr same) = subst HasBytes same codes
+  by_item : (index : ℕ) (other : SizedFont) → HasBytes read → (read_font_at old index ≡ Some other) ⊎ (read ≡ other) → HasBytes other
+  by_item index other codes (inl e) = sound.codes index other e
+  by_item index other codes (inr same) = subst HasBytes same codes
 
   pub selects_new : has_number after_post f ≡ true → first_definition_of f known ≡ Some d → new.current ≡ length old.all.items
       → file_widths files d.name d.size ≡ Some (width_at read) → HasBytes read
@@ -143,33 +143,33 @@ module _ (files : List NamedBytes) (after_post : List ℤ) (known : List Definit
       let mine : ℕ = length old.all.items in
       let last : read_font_at new mine ≡ Some read = ap (λ (fonts : List SizedFont). slice_get fonts mine) all ∙ item_last old.all.items read in
       selects_at metrics after_post known f old new mine read sound updates stays_before named current last (ap (widths_in metrics) there ∙ given)
-      (λ place other e.
-      by_item place other codes (item_back old.all.items read other place (sym (ap (λ (fonts : List SizedFont). slice_get fonts place) all) ∙ e)))
+      (λ index other e.
+      by_item index other codes (item_back old.all.items read other index (sym (ap (λ (fonts : List SizedFont). slice_get fonts index) all) ∙ e)))
 
 -- The font was read for another number with the same name and size.
-module _ (files : List NamedBytes) (known : List Definition) (d : Definition) (f : ℤ) (old : ReadFonts) (place : ℕ)
-    (sound : AreSound (file_widths files) known old) (same : IsPlaceOfSame known d old place) where
-  pub given_by_same : (read : SizedFont) × (read_font_at old place ≡ Some read) × (file_widths files d.name d.size ≡ Some (width_at read))
+module _ (files : List NamedBytes) (known : List Definition) (d : Definition) (f : ℤ) (old : ReadFonts) (index : ℕ)
+    (sound : AreSound (file_widths files) known old) (same : IsIndexOfSame known d old index) where
+  pub given_by_same : (read : SizedFont) × (read_font_at old index ≡ Some read) × (file_widths files d.name d.size ≡ Some (width_at read))
   given_by_same =
       let metrics : WidthsByName = file_widths files in
       let (g, other, found, name, size, at) = same in
-      let (read, there, widths) = sound.widths g place at in
+      let (read, there, widths) = sound.widths g index at in
       (read, there, ap (λ (n : List ℕ). metrics n d.size) (sym name) ∙ (ap (λ (z : ℤ). metrics other.name z) (sym size) ∙ (sym (ap (widths_in metrics) found) ∙ widths)))
 
-  pub selects_same : (after_post : List ℤ) (new : ReadFonts) → Updates int_cmp old.places new.places f (Some place) → new.all.items ≡ old.all.items
-      → has_number after_post f ≡ true → first_definition_of f known ≡ Some d → new.current ≡ place → Selects (file_widths files) after_post known f old new
+  pub selects_same : (after_post : List ℤ) (new : ReadFonts) → Updates int_cmp old.indices new.indices f (Some index) → new.all.items ≡ old.all.items
+      → has_number after_post f ≡ true → first_definition_of f known ≡ Some d → new.current ≡ index → Selects (file_widths files) after_post known f old new
   selects_same after_post new updates all named found current =
       let (read, there, given) = given_by_same in
       let at : (n : ℕ) → read_font_at new n ≡ read_font_at old n = λ n. ap (λ (fonts : List SizedFont). slice_get fonts n) all in
-      selects_at (file_widths files) after_post known f old new place read sound updates (λ n other e. at n ∙ e) named current (at place ∙ there)
+      selects_at (file_widths files) after_post known f old new index read sound updates (λ n other e. at n ∙ e) named current (at index ∙ there)
       (ap (widths_in (file_widths files)) found ∙ given) (λ n other e. sound.codes n other (sym (at n) ∙ e))
 
 -- More definitions change no width of a font that was read.
 pub sound_more : (metrics : WidthsByName) (xs ys : List Definition) (fonts : ReadFonts) → AreSound metrics xs fonts → AreSound metrics (xs ++ ys) fonts
 sound_more metrics xs ys fonts sound =
     record {
-      widths = λ f place at. (
-          let (read, there, widths) = sound.widths f place at in
+      widths = λ f index at. (
+          let (read, there, widths) = sound.widths f index at in
           let (d, e) = some_definition (first_definition_of f xs) (has_definition metrics xs f (is_some (font metrics xs f) (width_at read) widths)) in
           (read, there, ap (widths_in metrics) (defined_more f xs ys d e ∙ sym e) ∙ widths));
       codes = sound.codes;
@@ -188,11 +188,11 @@ module _ (files : List NamedBytes) (after_post : List ℤ) (known : List Definit
   refused_font refusal refused = record { named = named; font = d; found = found; refused = refused }
 
   -- Memory is refused for the font.
-  pub lacks_memory : font_place f fonts ≡ None → MayAllocate files d → IsSelectFault files after_post known fonts f (Pass OutOfMemory)
+  pub lacks_memory : font_index f fonts ≡ None → MayAllocate files d → IsSelectFault files after_post known fonts f (Pass OutOfMemory)
   lacks_memory new file = record { named = named; new = new; font = d; found = found; file = file }
 
   -- The first file with the name gives no font at the size.
-  pub not_read_from : (file : NamedBytes) (fault : FontReadFault) → font_place f fonts ≡ None → file_named d.name files ≡ Some file
+  pub not_read_from : (file : NamedBytes) (fault : FontReadFault) → font_index f fonts ≡ None → file_named d.name files ≡ Some file
       → IsReadRefusal file.bytes (Some d.size) fault → IsSelectFault files after_post known fonts f (of_read d.number fault)
   not_read_from file reads.OutOfMemory new is refused = lacks_memory new (file, is, refused)
   not_read_from file (reads.BadTfm cause) new is refused = refused_font (refusals.BadTfm d.number cause) (refl, file, is, refused)
@@ -204,13 +204,13 @@ or_both : (a b : Bool) → a ≡ false → b ≡ false → (a || b) ≡ false
 or_both true b one other = one
 or_both false b one other = other
 
-other_font : (f g : ℤ) (b : Bool) (fonts : ReadFonts) → int_eq f g ≡ b → font_place f fonts ≡ None → FontIsRead g fonts → int_eq f g ≡ false
+other_font : (f g : ℤ) (b : Bool) (fonts : ReadFonts) → int_eq f g ≡ b → font_index f fonts ≡ None → FontIsRead g fonts → int_eq f g ≡ false
 other_font f g false fonts is none some = is
 other_font f g true fonts is none some =
     let here : FontIsRead f fonts = subst (λ (n : ℤ). FontIsRead n fonts) (sym ((Decides-int_eq f g).0 is)) some in
     let nothing : Option ℕ = None in
     let gone : IsSome nothing = subst (λ (o : Option ℕ). IsSome o) none here in absurd cc
 
-pub not_read : (f : ℤ) (fonts : ReadFonts) (selected : List ℤ) → font_place f fonts ≡ None → AllByRecursion (λ g. FontIsRead g fonts) selected → has_number selected f ≡ false
+pub not_read : (f : ℤ) (fonts : ReadFonts) (selected : List ℤ) → font_index f fonts ≡ None → AllByRecursion (λ g. FontIsRead g fonts) selected → has_number selected f ≡ false
 not_read f fonts [] none all = refl
 not_read f fonts (g ∷ selected) none (here, all) = or_both (int_eq f g) (has_number selected f) (other_font f g (int_eq f g) fonts refl none here) (not_read f fonts selected none all)

@@ -194,8 +194,8 @@ walked_first metrics after_post bytes postamble chain from walk begun reached =
           (record { pass = pass_state_of walk; known = known_of walk; selected = nothing; left = l })) left two;
       read = tt;
       sound = record {
-        widths = λ f place there. (let none : None ≡ Some place = sym (ap (λ (places : List (ℤ × ℕ)). lookup (is_at (int_cmp f)) places) begun.places) ∙ there in absurd cc);
-        codes = λ place read there. (let none : None ≡ Some read = sym (ap (λ (fonts : List SizedFont). slice_get fonts place) begun.fonts) ∙ there in absurd cc);
+        widths = λ f index there. (let none : None ≡ Some index = sym (ap (λ (indices : List (ℤ × ℕ)). lookup (is_at (int_cmp f)) indices) begun.indices) ∙ there in absurd cc);
+        codes = λ index read there. (let none : None ≡ Some read = sym (ap (λ (fonts : List SizedFont). slice_get fonts index) begun.fonts) ∙ there in absurd cc);
       };
       current = subst (λ (pass_state : PassState). IsCurrent walk.fonts pass_state) (sym begun.pass_state) (λ f none. absurd cc);
     }

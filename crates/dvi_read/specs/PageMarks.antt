@@ -7,7 +7,7 @@ use Rattle.dvi_ops.specs.File.{MarkedPage}
 use Rattle.dvi_ops.specs.Fonts.{WidthsByName, widths_of}
 use Rattle.dvi_ops.specs.Instruction.{Definition, Do, Instruction, Xxx}
 use Rattle.dvi_ops.specs.Tokens.{Token}
-use Rattle.dvi_read.specs.ReadFonts.{HaveByteCodes, font_place, read_font_at, width_in}
+use Rattle.dvi_read.specs.ReadFonts.{HaveByteCodes, font_index, read_font_at, width_in}
 use Rattle.dvi_read.specs.declared.fonts.ReadFonts.{ReadFonts}
 use Rattle.scaled_core.specs.Mark.{Mark, Glyph, Rule, Special}
 
@@ -48,7 +48,7 @@ pub record TextIsAt (bytes : List ℕ) (place : ℕ) (text : List ℕ) : Type 0 
 
 -- The width of a character in the font of a number, where that font was read.
 abbrev pub read_width : ReadFonts → (number code : ℤ) → Option ℤ
-read_width fonts number code = width_in (option_and_then (read_font_at fonts) (font_place number fonts)) code
+read_width fonts number code = width_in (option_and_then (read_font_at fonts) (font_index number fonts)) code
 
 -- The fonts that were read have a width for the character, and it is the one by the first definition of the font's number.
 abbrev pub IsGlyphWidth : WidthsByName → (table : List Definition) → ReadFonts → (number code : ℤ) → Type 0

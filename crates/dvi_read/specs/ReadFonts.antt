@@ -12,25 +12,25 @@ use Rattle.dvi_read.specs.declared.fonts.ReadFonts.{ReadFonts}
 use Rattle.tfm_core.specs.FileWidths.{width_at}
 use Rattle.tfm_core.specs.Fonts.{SizedFont}
 
--- The place of the font of a number among those that were read.
-abbrev pub font_place : ℤ → ReadFonts → Option ℕ
-font_place f fonts = get int_cmp fonts.places f
+-- The index of the font of a number among those that were read.
+abbrev pub font_index : ℤ → ReadFonts → Option ℕ
+font_index f fonts = get int_cmp fonts.indices f
 
 -- The font of the number was read.
 abbrev pub FontIsRead : ℤ → ReadFonts → Type 0
-FontIsRead f fonts = IsSome (font_place f fonts)
+FontIsRead f fonts = IsSome (font_index f fonts)
 
 -- The font of the number was read, and selected last.
 abbrev pub HasCurrent : ℤ → ReadFonts → Type 0
-HasCurrent f fonts = font_place f fonts ≡ Some fonts.current
+HasCurrent f fonts = font_index f fonts ≡ Some fonts.current
 
--- The same fonts, where the one at this place was selected last.
-abbrev pub with_current : ReadFonts → (place : ℕ) → ReadFonts
-with_current fonts place = record fonts { current = place }
+-- The same fonts, where the one at this index was selected last.
+abbrev pub with_current : ReadFonts → (index : ℕ) → ReadFonts
+with_current fonts index = record fonts { current = index }
 
--- The font at a place.
+-- The font at an index.
 abbrev pub read_font_at : ReadFonts → ℕ → Option SizedFont
-read_font_at fonts place = slice_get fonts.all.items place
+read_font_at fonts index = slice_get fonts.all.items index
 
 -- The font that was selected last.
 abbrev pub selected_font : ReadFonts → Option SizedFont
@@ -38,21 +38,21 @@ selected_font fonts = read_font_at fonts fonts.current
 
 -- The codes of the characters of each font are bytes.
 abbrev pub HaveByteCodes : ReadFonts → Type 0
-HaveByteCodes fonts = (place : ℕ) (read : SizedFont) → read_font_at fonts place ≡ Some read → HasBytes read
+HaveByteCodes fonts = (index : ℕ) (read : SizedFont) → read_font_at fonts index ≡ Some read → HasBytes read
 
--- At the place of a number there is a font with the widths that the metric files give for the number among these definitions.
-abbrev pub HasWidthsAt : WidthsByName → (table : List Definition) → ReadFonts → (f : ℤ) → (place : ℕ) → Type 0
-HasWidthsAt metrics table fonts f place = (read : SizedFont) × (read_font_at fonts place ≡ Some read) × (font metrics table f ≡ Some (width_at read))
+-- At the index of a number there is a font with the widths that the metric files give for the number among these definitions.
+abbrev pub HasWidthsAt : WidthsByName → (table : List Definition) → ReadFonts → (f : ℤ) → (index : ℕ) → Type 0
+HasWidthsAt metrics table fonts f index = (read : SizedFont) × (read_font_at fonts index ≡ Some read) × (font metrics table f ≡ Some (width_at read))
 
--- Each number has such a font at its place, and the codes of the characters are bytes.
+-- Each number has such a font at its index, and the codes of the characters are bytes.
 pub record AreSound (metrics : WidthsByName) (table : List Definition) (fonts : ReadFonts) : Type 0 where
-  pub widths : (f : ℤ) (place : ℕ) → font_place f fonts ≡ Some place → HasWidthsAt metrics table fonts f place
+  pub widths : (f : ℤ) (index : ℕ) → font_index f fonts ≡ Some index → HasWidthsAt metrics table fonts f index
   pub codes : HaveByteCodes fonts
 
--- The fonts, their places and the selected one are unchanged.
+-- The fonts, their indices and the selected one are unchanged.
 pub record AreUnchanged (old new : ReadFonts) : Type 0 where
   pub all : new.all.items ≡ old.all.items
-  pub places : IsUnchanged old.places new.places
+  pub indices : IsUnchanged old.indices new.indices
   pub current : new.current ≡ old.current
 
 -- The font that is selected in the state of the pass, if one is.

@@ -13,7 +13,7 @@ use Rattle.dvi_scan.specs.Pass.{PassStateView, execute}
 use Rattle.dvi_scan.specs.Reached.{HasWidths, PlacesLeft, ReadSoFar, after_bops, has_number}
 use Rattle.dvi_scan.specs.Execution.{pass_at}
 use Rattle.dvi_scan.specs.View.{marked_page}
-use Rattle.dvi_read.specs.ReadFonts.{AreSound, HasCurrent, IsCurrent, FontIsRead, font_place}
+use Rattle.dvi_read.specs.ReadFonts.{AreSound, HasCurrent, IsCurrent, FontIsRead, font_index}
 use Rattle.dvi_read.specs.declared.fonts.ReadFonts.{ReadFonts}
 use Rattle.dvi_read.specs.WalkFaults.{BreaksRule, FontIsUnread, SelectsUnread, InstructionAllocates}
 use Rattle.dvi_read.specs.declared.fault.StepFault.{StepFault}
@@ -37,7 +37,7 @@ IsUndefined after_post known f = (first_definition_of f known ≡ None) ⊎ (has
 -- Memory is refused for a font: it was not read before, and a file with its name was given that breaks no rule that needs no table.
 pub record LacksFont (files : List NamedBytes) (after_post : List ℤ) (known : List Definition) (f : ℤ) (fonts : ReadFonts) : Type 0 where
   pub named : has_number after_post f ≡ true
-  pub new : font_place f fonts ≡ None
+  pub new : font_index f fonts ≡ None
   pub font : Definition
   pub found : first_definition_of f known ≡ Some font
   pub file : MayAllocate files font

@@ -8,8 +8,8 @@ ghost use Rattle.dvi_scan.specs.declared.widths.FontRefusal.TheVariants.{NoFont}
 ghost use Rattle.dvi_ops.specs.View.{view, definition};
 ghost use Rattle.dvi_read.specs.PageMarks.{read_width};
 ghost use Rattle.dvi_read.specs.ReadFonts.{AreSound, AreUnchanged, HaveByteCodes};
-ghost use Rattle.dvi_read.specs.Private.ReadFonts.{IsPlaceOfSame};
-ghost use Rattle.dvi_read.specs.ReadFonts.{asked_width, code_in, font_place, read_font_at, width_in, with_current};
+ghost use Rattle.dvi_read.specs.Private.ReadFonts.{IsIndexOfSame};
+ghost use Rattle.dvi_read.specs.ReadFonts.{asked_width, code_in, font_index, read_font_at, width_in, with_current};
 ghost use Rattle.tfm_core.specs.FileWidths.{width_at, file_widths};
 ghost use Rattle.tfm_core.specs.NamedBytes.{file_named};
 ghost use Rattle.std.specs.List.{AllByRecursion};
@@ -28,7 +28,7 @@ use std::alloc::{AllocError, Global};
 use std::collections::BTreeMap;
 use tfm_core::{Font, FontFile, file_named};
 
-/// The fonts that were read, in the order of their first selections; the place of each number among them; and the place of the font that was selected
+/// The fonts that were read, in the order of their first selections; the index of each number among them; and the index of the font that was selected
 /// last. Numbers with the same name and size have one font: a file may define thousands of them.
 ///
 /// A number is searched only at a selection, in time logarithmic in the count of fonts. A character takes its width from the font at `current`,
@@ -36,7 +36,7 @@ use tfm_core::{Font, FontFile, file_named};
 #[derive(Drop)]
 pub struct ReadFonts {
     pub all: Vec<Font>,
-    pub places: BTreeMap<i32, usize>,
+    pub indices: BTreeMap<i32, usize>,
     pub current: usize,
     /// A number that was read, by the key of its font. It only leads to a definition that is then compared: no clause depends on it.
     numbers: BTreeMap<u64, i32>,
@@ -44,11 +44,11 @@ pub struct ReadFonts {
 
 /// A number for each pair of one of the first 2^37 metric files and a size, if the font has a file.
 fn key_of(files: &[FontFile], font: &FontDefinition<'_>) -> Option<u64> {
-    let place = files
+    let index = files
         .iter()
         .position(|file| file.name().as_bytes() == font.name)?;
     let size = u64::try_from(font.size).ok()?;
-    (place as u64).checked_mul(1 << 27)?.checked_add(size)
+    (index as u64).checked_mul(1 << 27)?.checked_add(size)
 }
 
 /// The number of a character.
@@ -71,47 +71,47 @@ impl ReadFonts {
     /// No fonts.
     pub(crate) fn new(alloc: Global) -> ReadFonts
         ensures all { result.all.items ≡ [] }
-        ensures places { IsEmpty result.places }
+        ensures indices { IsEmpty result.indices }
     {
         ReadFonts {
             all: Vec::new(alloc),
-            places: BTreeMap::new(alloc),
+            indices: BTreeMap::new(alloc),
             current: 0,
             numbers: BTreeMap::new(alloc),
         }
     }
 
-    /// The place of the font of a number, if it was read. It takes no memory.
-    pub(crate) fn place_of(&self, number: FontNumber) -> Option<usize>
-        ensures { result ≡ font_place number.value self.now }
+    /// The index of the font of a number, if it was read. It takes no memory.
+    pub(crate) fn index_of(&self, number: FontNumber) -> Option<usize>
+        ensures { result ≡ font_index number.value self.now }
     {
-        let place = self.places.get(&number.value)?;
-        Some(*place)
+        let index = self.indices.get(&number.value)?;
+        Some(*index)
     }
 
     /// Selects the font of a number, if it was read before, and returns whether it was. It takes no memory.
     fn choose(&mut self, number: FontNumber) -> bool
-        ensures yes { result ≡ true → (place : ℕ) × (font_place number.value self.old ≡ Some place)
-            × (self.new ≡ record self.old { current = place }) }
-        ensures no { result ≡ false → (font_place number.value self.old ≡ None) × (self.new ≡ self.old) }
+        ensures yes { result ≡ true → (index : ℕ) × (font_index number.value self.old ≡ Some index)
+            × (self.new ≡ record self.old { current = index }) }
+        ensures no { result ≡ false → (font_index number.value self.old ≡ None) × (self.new ≡ self.old) }
     {
-        match self.place_of(number) {
-            Some(place) => {
-                self.current = place;
+        match self.index_of(number) {
+            Some(index) => {
+                self.current = index;
                 true
             }
             None => false,
         }
     }
 
-    /// The place of a font that was read for another number with the same name and size, if one was. It takes no memory.
-    fn place_of_same(
+    /// The index of a font that was read for another number with the same name and size, if one was. It takes no memory.
+    fn index_of_same(
         &self,
         key: Option<u64>,
         known: &KnownFonts<'_>,
         font: &FontDefinition<'_>,
     ) -> Option<usize>
-        ensures { IfSome result (IsPlaceOfSame known.now (definition font.now) self.now) }
+        ensures { IfSome result (IsIndexOfSame known.now (definition font.now) self.now) }
     {
         let number = FontNumber {
             value: *self.numbers.get(&key?)?,
@@ -123,18 +123,18 @@ impl ReadFonts {
         if other.name != font.name {
             return None;
         }
-        self.place_of(number)
+        self.index_of(number)
     }
 
-    /// Gives a number the font at a place, and selects it. It takes memory for the number.
-    fn share(&mut self, number: FontNumber, place: usize) -> Result<(), AllocError>
-        ensures places { OnOk result (Updates int_cmp self.old.places self.new.places number.value (Some place)) }
+    /// Gives a number the font at an index, and selects it. It takes memory for the number.
+    fn share(&mut self, number: FontNumber, index: usize) -> Result<(), AllocError>
+        ensures indices { OnOk result (Updates int_cmp self.old.indices self.new.indices number.value (Some index)) }
         ensures all { self.new.all.items ≡ self.old.all.items }
-        ensures current { OnOk result (self.new.current ≡ place) }
+        ensures current { OnOk result (self.new.current ≡ index) }
         ensures err { OnErr result (AreUnchanged self.old self.new) }
     {
-        self.places.insert(number.value, place)?;
-        self.current = place;
+        self.indices.insert(number.value, index)?;
+        self.current = index;
         Ok(())
     }
 
@@ -150,16 +150,16 @@ impl ReadFonts {
 
     /// Adds the font of a number, and selects it. It takes memory for both.
     pub(crate) fn add(&mut self, number: FontNumber, font: Font) -> Result<(), AllocError>
-        ensures places { OnOk result (Updates int_cmp self.old.places self.new.places number.value (Some (length self.old.all.items))) }
+        ensures indices { OnOk result (Updates int_cmp self.old.indices self.new.indices number.value (Some (length self.old.all.items))) }
         ensures all { OnOk result (self.new.all.items ≡ self.old.all.items ++ font ∷ []) }
         ensures current { OnOk result (self.new.current ≡ length self.old.all.items) }
         ensures err { OnErr result (AreUnchanged self.old self.new) }
     {
         self.all.reserve(1)?;
-        let place = self.all.len();
-        self.places.insert(number.value, place)?;
+        let index = self.all.len();
+        self.indices.insert(number.value, index)?;
         self.all.push(font).unwrap();
-        self.current = place;
+        self.current = index;
         Ok(())
     }
 
@@ -169,16 +169,16 @@ impl ReadFonts {
         requires { HaveByteCodes self.now }
         ensures { result ≡ read_width self.now number.value code.value }
     {
-        let place = self.place_of(number)?;
-        self.width_at(place, code)
+        let index = self.index_of(number)?;
+        self.width_at(index, code)
     }
 
-    /// The width of a character in the font at a place; None where there is no font or no such character. It takes no memory.
-    pub(crate) fn width_at(&self, place: usize, code: CharCode) -> Option<i32>
+    /// The width of a character in the font at an index; None where there is no font or no such character. It takes no memory.
+    pub(crate) fn width_at(&self, index: usize, code: CharCode) -> Option<i32>
         requires { HaveByteCodes self.now }
-        ensures { result ≡ width_in (read_font_at self.now place) code.value }
+        ensures { result ≡ width_in (read_font_at self.now index) code.value }
     {
-        let font = self.all.get(place)?;
+        let font = self.all.get(index)?;
         width_of(font, code)
     }
 }
@@ -253,7 +253,7 @@ fn select_first<'a>(
     requires sound { AreSound (file_widths source.now.files.now) known.now fonts.old }
     requires first { first_definition_of font.now.number known.now ≡ Some (definition font.now) }
     requires after_post { has_number source.now.after_post.now.keys font.now.number ≡ true }
-    requires new { font_place font.now.number fonts.old ≡ None }
+    requires new { font_index font.now.number fonts.old ≡ None }
     ensures ok { OnOk result (Selects (file_widths source.now.files.now) source.now.after_post.now.keys known.now font.now.number
         fonts.old fonts.new) }
     ensures bad { IfErr result (IsSelectFault source.now.files.now source.now.after_post.now.keys known.now fonts.old font.now.number) }
@@ -261,8 +261,8 @@ fn select_first<'a>(
 {
     let number = number_of(font);
     let key = key_of(source.files, font);
-    if let Some(place) = fonts.place_of_same(key, known, font) {
-        fonts.share(number, place)?;
+    if let Some(index) = fonts.index_of_same(key, known, font) {
+        fonts.share(number, index)?;
         return Ok(());
     }
     let file = font_file(source.files, font)?;

@@ -105,8 +105,8 @@ fn choose_font(op: &Op<'_>, fonts: &ReadFonts, current: &mut usize)
         return;
     };
     if let BodyOp::FontNum(value) = body {
-        if let Some(place) = fonts.place_of(FontNumber { value }) {
-            *current = place;
+        if let Some(index) = fonts.index_of(FontNumber { value }) {
+            *current = index;
         }
     }
 }

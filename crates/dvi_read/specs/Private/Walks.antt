@@ -31,6 +31,6 @@ pub record IsBegun (left : List ℕ) (walk : Walk) : Type 0 where
   pub done : walk.done.items ≡ []
   pub known : walk.known ≡ []
   pub fonts : walk.fonts.all.items ≡ []
-  pub places : IsEmpty walk.fonts.places
+  pub indices : IsEmpty walk.fonts.indices
   pub left_is : walk.left.now ≡ left
   pub missed : walk.missed ≡ false

@@ -2,7 +2,7 @@ use Rattle.std.proofs.Common.{None, Some, subst, sym, true, ℤ, ◌≡◌}
 use Rattle.std.specs.Prelude.{IfErr, OnOk}
 use Rattle.dvi_ops.specs.Fonts.{first_definition_of}
 use Rattle.dvi_ops.specs.View.{definition}
-use Rattle.dvi_read.specs.ReadFonts.{font_place}
+use Rattle.dvi_read.specs.ReadFonts.{font_index}
 use Rattle.dvi_read.specs.Steps.{IsSelectFault, Selects}
 use Rattle.dvi_read.specs.declared.fonts.ReadFonts.{ReadFonts}
 use Rattle.dvi_read.proofs.SelectLemmas.{selects_read}
@@ -13,8 +13,8 @@ use Rattle.dvi_read.proofs.fonts.select.Goals as goal
 
 pub returns-then-choose-clause-ok : goal.returns-then-choose-clause-ok
 returns-then-choose-clause-ok c =
-    let (place, there, is) = c.choose.ensures.yes c.if-choose.true in
-    selects_read (file_widths c.args.source.now.files.now) c.args.source.now.after_post.now.keys c.args.known.now c.args.number.value place
+    let (index, there, is) = c.choose.ensures.yes c.if-choose.true in
+    selects_read (file_widths c.args.source.now.files.now) c.args.source.now.after_post.now.keys c.args.known.now c.args.number.value index
     c.args.fonts.now c.choose.new.self c.requires.sound
     c.in-Some.ensures.font_defined.0 there is
 
@@ -35,8 +35,8 @@ pub select_first-requires-clause-new : goal.select_first-requires-clause-new
 select_first-requires-clause-new c =
     let same = defined_number c.args.number.value c.args.known.now (definition c.in-Some.font.now) c.in-Some.ensures.font_defined.1 in
     let (none, kept) = c.choose.ensures.no c.if-choose.false in
-    subst (λ (fonts : ReadFonts). font_place c.in-Some.font.now.number fonts ≡ None) (sym kept)
-    (subst (λ (f : ℤ). font_place f c.args.fonts.now ≡ None) same none)
+    subst (λ (fonts : ReadFonts). font_index c.in-Some.font.now.number fonts ≡ None) (sym kept)
+    (subst (λ (f : ℤ). font_index f c.args.fonts.now ≡ None) same none)
 
 pub returns-clause-ok : goal.returns-clause-ok
 returns-clause-ok c =

@@ -21,7 +21,7 @@ returns-in_err-share-clause-bad c =
     let fonts = c.args.fonts.now in
     let f = c.args.font.now.number in
     let d = definition c.args.font.now in
-    let (read, at, widths) = given_by_same files known d f fonts c.in-Some.place c.requires.sound c.in-Some.ensures in
+    let (read, at, widths) = given_by_same files known d f fonts c.in-Some.index c.requires.sound c.in-Some.ensures in
     handed_on (IsSelectFault files after_post known fonts f) c.from_residual.result (Pass OutOfMemory) c.from_residual.ensures.1
     (lacks_memory files after_post known fonts f d c.requires.after_post c.requires.first c.requires.new (widths_space files d (width_at read) widths))
 
@@ -68,8 +68,8 @@ returns-clause-ok c =
     let mid = c.keep_number.new.self in
     let metrics = file_widths files in
     let widths = given_by files d c.in_ok-file.file.now read c.in_ok-file.ensures.found c.bytes.ensures c.in-Ok.ensures.ok in
-    let places =
-    subst (λ (n : ℤ). Updates int_cmp mid.places c.add.new.self.places n (Some (length mid.all.items))) c.number_of-number.ensures add.places in
+    let indices =
+    subst (λ (n : ℤ). Updates int_cmp mid.indices c.add.new.self.indices n (Some (length mid.all.items))) c.number_of-number.ensures add.indices in
     selects_on old mid c.keep_number.ensures metrics after_post known f c.add.new.self
-    (selects_new files after_post known d f mid c.add.new.self read (sound_stays old mid c.keep_number.ensures metrics known c.requires.sound) places add.all
+    (selects_new files after_post known d f mid c.add.new.self read (sound_stays old mid c.keep_number.ensures metrics known c.requires.sound) indices add.all
     c.requires.after_post c.requires.first add.current widths c.in-Ok.ensures.bytes)
