@@ -4,8 +4,8 @@ ghost use Rattle.std.specs.Prelude.{None};
 
 use crate::blocking_stream::BlockingStream;
 use boxglue_lib::{
-    CreatedPaths, FailureCount, FileHost, Host, HostFault, HostParts, StandardInput, read_all,
-    write_some,
+    CreatedPaths, FailureCount, FileHost, Host, HostParts, OutputFault, ReadFault, StandardInput,
+    read_all, write_some,
 };
 use std::alloc::Global;
 use std::fs::File;
@@ -52,7 +52,7 @@ impl<'a> SystemHost<'a> {
 
 impl StandardInput for BlockingStream<'_, Stdin> {
     /// An input that has nothing yet is not waited for: this reading fails.
-    fn read_whole(self, alloc: Global) -> Result<Vec<u8>, HostFault> {
+    fn read_whole(self, alloc: Global) -> Result<Vec<u8>, ReadFault> {
         read_all(alloc, &mut self.into_stream())
     }
 }
@@ -76,12 +76,21 @@ impl<'a> Host for SystemHost<'a> {
     }
 }
 
-/// The fault of a host for an error of the system.
-fn fault_of(fault: &Error) -> HostFault {
+/// The fault of a file that the system did not open.
+fn read_fault(fault: &Error) -> ReadFault {
     if fault.kind() == ErrorKind::OutOfMemory {
-        HostFault::OutOfMemory
+        ReadFault::OutOfMemory
     } else {
-        HostFault::Failed
+        ReadFault::Unreadable
+    }
+}
+
+/// The fault of a file that the system did not create.
+fn output_fault(fault: &Error) -> OutputFault {
+    if fault.kind() == ErrorKind::OutOfMemory {
+        OutputFault::OutOfMemory
+    } else {
+        OutputFault::Unwritten
     }
 }
 
@@ -96,14 +105,14 @@ impl FileHost for SystemFiles<'_> {
 
     ghost failures = { λ host. host.failures.count };
 
-    fn read_file(&self, alloc: Global, path: &str) -> Result<Vec<u8>, HostFault> {
+    fn read_file(&self, alloc: Global, path: &str) -> Result<Vec<u8>, ReadFault> {
         match File::open(self.rt, path) {
             Ok(mut file) => read_all(alloc, &mut file),
-            Err(fault) => Err(fault_of(&fault)),
+            Err(fault) => Err(read_fault(&fault)),
         }
     }
 
-    fn create(&mut self, path: &str) -> Result<(), HostFault> {
+    fn create(&mut self, path: &str) -> Result<(), OutputFault> {
         match File::create(self.rt, path) {
             Ok(file) => {
                 self.file = Some(file);
@@ -112,15 +121,15 @@ impl FileHost for SystemFiles<'_> {
             }
             Err(fault) => {
                 self.failures.raise();
-                Err(fault_of(&fault))
+                Err(output_fault(&fault))
             }
         }
     }
 
-    fn write(&mut self, piece: &[u8]) -> Result<usize, HostFault> {
+    fn write(&mut self, piece: &[u8]) -> Result<usize, OutputFault> {
         let written = match &mut self.file {
             Some(file) => write_some(file, piece),
-            None => Err(HostFault::Failed),
+            None => Err(OutputFault::Unwritten),
         };
         if written.is_err() {
             self.failures.raise();

@@ -16,11 +16,11 @@ use Rattle.boxglue_words.specs.Hosts.{AreFilesOf, IsUnread, begun_for, created_a
 use Rattle.std.specs.Coded.{Coded}
 use Rattle.boxglue_words.proofs.HostLemmas.{begun_alike}
 use Rattle.tfm_core.specs.NamedBytes.{NamedBytes}
-use Rattle.boxglue_words.specs.declared.font_files.FontFileFault.{FontFileFault}
-use Rattle.boxglue_words.specs.declared.font_files.FontFileFault.TheVariants.{OutOfMemory as WantsMemory, File}
+use Rattle.boxglue_words.specs.declared.input_fault.InputFault.{InputFault}
+use Rattle.boxglue_words.specs.declared.input_fault.InputFault.TheVariants.{OutOfMemory as WantsMemory, Unreadable as UnreadableInput}
 use Rattle.boxglue_words.specs.declared.fonts.NamedPath.{NamedPath}
 use Rattle.boxglue_lib.specs.Inputs.{IsUnreadDvi, IsUnreadScript}
-use Rattle.boxglue_lib.specs.Faults.{of_font_file, of_paint, of_print, of_run}
+use Rattle.boxglue_lib.specs.Faults.{of_input, of_paint, of_print, of_run}
 use Rattle.boxglue_lib.specs.declared.printing.PrintFault.{PrintFault}
 use Rattle.boxglue_lib.specs.declared.printing.PrintFault.TheVariants as prints
 use Rattle.boxglue_words.specs.Readings.{Files, IsFileReading, IsReadable, IsReading}
@@ -163,12 +163,12 @@ ends_weaker rules weaker (Err (Unreadable path)) old new f u l h = (u path h.0, 
 ends_weaker rules weaker (Err NoSuchPage) old new f u l h = (l h.0, h.1)
 
 -- Files that were not read, and the report of it.
-pub unread_output : {H : Type 0} (fonts : List NamedPath) (host back : HostView H) (file : OutFile) (fault : FontFileFault)
+pub unread_output : {H : Type 0} (fonts : List NamedPath) (host back : HostView H) (file : OutFile) (fault : InputFault)
     (old new : Option (List ℕ))
-    → IsLeftAlone (IsSame host back) file → IsUnreadScript host.files host.input fonts fault → TellsOutput (Err (of_font_file fault)) old new
-    → EndsOutput (typesetting_rules written_bytes fonts host back file) (Err (of_font_file fault)) old new
+    → IsLeftAlone (IsSame host back) file → IsUnreadScript host.files host.input fonts fault → TellsOutput (Err (of_input fault)) old new
+    → EndsOutput (typesetting_rules written_bytes fonts host back file) (Err (of_input fault)) old new
 unread_output fonts host back file WantsMemory old new alone unread said = said
-unread_output fonts host back file (File path) old new alone unread said = ((unread, alone), said)
+unread_output fonts host back file (UnreadableInput path) old new alone unread said = ((unread, alone), said)
 
 -- Known bytes stay the same if nothing happens.
 pub keeps_same : (known : Option (List ℕ)) → Keeps known known
@@ -229,28 +229,28 @@ pub placed_since : (path out : List ℕ) (paths before now : List (List ℕ)) (c
 placed_since path out paths before now created same alike is = is ∙ (ap (λ (p : List ℕ). created_after created p paths) same ∙ ap (λ (ps : List (List ℕ)). created_after created out ps) alike)
 
 -- Fonts that were not read, before standard input.
-pub unread_script : (reported : List ℕ → Option (Option (List ℕ))) (input : Option (List ℕ)) (fonts : List NamedPath) (fault : FontFileFault)
+pub unread_script : (reported : List ℕ → Option (Option (List ℕ))) (input : Option (List ℕ)) (fonts : List NamedPath) (fault : InputFault)
     → IsUnread reported fonts fault → IsUnreadScript reported input fonts fault
 unread_script reported input fonts WantsMemory unread = inl unread
-unread_script reported input fonts (File path) unread = inl unread
+unread_script reported input fonts (UnreadableInput path) unread = inl unread
 
 -- Fonts that were not read, after the DVI file.
-pub unread_dvi : (reported : List ℕ → Option (Option (List ℕ))) (dvi bytes : List ℕ) (fonts : List NamedPath) (fault : FontFileFault)
+pub unread_dvi : (reported : List ℕ → Option (Option (List ℕ))) (dvi bytes : List ℕ) (fonts : List NamedPath) (fault : InputFault)
     → IsFileReading (reported dvi) bytes → IsUnread reported fonts fault → IsUnreadDvi reported dvi fonts fault
 unread_dvi reported dvi bytes fonts WantsMemory read unread = inr ((bytes, read), unread)
-unread_dvi reported dvi bytes fonts (File path) read unread = inr ((bytes, read), unread)
+unread_dvi reported dvi bytes fonts (UnreadableInput path) read unread = inr ((bytes, read), unread)
 
 -- What is known of the input of `typeset` if memory was refused for it.
-wanting_script : (reported : List ℕ → Option (Option (List ℕ))) (input : Option (List ℕ)) (fonts : List NamedPath) (fault : FontFileFault)
-    → of_font_file fault ≡ OutOfMemory → IsUnreadScript reported input fonts fault → IsUnreadScript reported input fonts WantsMemory
+wanting_script : (reported : List ℕ → Option (Option (List ℕ))) (input : Option (List ℕ)) (fonts : List NamedPath) (fault : InputFault)
+    → of_input fault ≡ OutOfMemory → IsUnreadScript reported input fonts fault → IsUnreadScript reported input fonts WantsMemory
 wanting_script reported input fonts WantsMemory wants unread = unread
-wanting_script reported input fonts (File path) wants unread = absurd (cc)
+wanting_script reported input fonts (UnreadableInput path) wants unread = absurd (cc)
 
 -- The input of `typeset` was not read, and that was reported.
 pub not_typeset : {H : Type 0} (known : H → Files) (created : H → List (List ℕ)) (written : H → Option (List ℕ)) (failures : H → ℕ) (input left : Option (List ℕ)) (host : H)
-    (fonts : List NamedPath) (out : List ℕ) (fault : FontFileFault) (before after : Streams) (status : ℕ)
-    → IsUnreadScript (known host) input fonts fault → TellsOutput (Err (of_font_file fault)) before.output after.output → TellsErrors (Err (of_font_file fault)) before.errors after.errors
-    → status ≡ status_of (Err (of_font_file fault))
+    (fonts : List NamedPath) (out : List ℕ) (fault : InputFault) (before after : Streams) (status : ℕ)
+    → IsUnreadScript (known host) input fonts fault → TellsOutput (Err (of_input fault)) before.output after.output → TellsErrors (Err (of_input fault)) before.errors after.errors
+    → status ≡ status_of (Err (of_input fault))
     → HasTypeset written_bytes out fonts (view_of known created written failures input host) (view_of known created written failures left host) before after status
 not_typeset known created written failures input left host fonts out fault before after status unread said output_is is =
     let old = view_of known created written failures input host in
@@ -258,7 +258,7 @@ not_typeset known created written failures input left host fonts out fault befor
     let file : OutFile = record { created = false; done = true; written = written host } in
     let alone : IsLeftAlone (IsSame old new) file = record { same = refl; closed = refl; silent = refl } in
     record {
-      end = Err (of_font_file fault);
+      end = Err (of_input fault);
       file = file;
       leaves = record { written = refl; placed = refl; untouched = λ _. refl; unchanged = λ _ _. refl; blamed = unfailed (failures host) };
       printed = unread_output fonts old new file fault before.output after.output alone unread said;
@@ -275,11 +275,11 @@ not_created true done None used fine reported empty = cc
 not_created true done (Some bytes) used fine reported empty = absurd (used refl fine bytes refl empty)
 
 -- Inputs that were not read, for a task whose memory was refused.
-pub wanting_dvi : (reported : List ℕ → Option (Option (List ℕ))) (dvi : List ℕ) (fonts : List NamedPath) (fault : FontFileFault) (end : TaskEnd)
-    → IsUnreadDvi reported dvi fonts fault → IsErrAnd end (λ other. other ≡ of_font_file fault) → end ≡ Err OutOfMemory → LacksMemoryForDvi reported dvi fonts
+pub wanting_dvi : (reported : List ℕ → Option (Option (List ℕ))) (dvi : List ℕ) (fonts : List NamedPath) (fault : InputFault) (end : TaskEnd)
+    → IsUnreadDvi reported dvi fonts fault → IsErrAnd end (λ other. other ≡ of_input fault) → end ≡ Err OutOfMemory → LacksMemoryForDvi reported dvi fonts
 wanting_dvi reported dvi fonts WantsMemory end unread handed wants = inl unread
-wanting_dvi reported dvi fonts (File path) (Ok fine) unread handed wants = absurd handed
-wanting_dvi reported dvi fonts (File path) (Err other) unread handed wants = absurd (cc)
+wanting_dvi reported dvi fonts (UnreadableInput path) (Ok fine) unread handed wants = absurd handed
+wanting_dvi reported dvi fonts (UnreadableInput path) (Err other) unread handed wants = absurd (cc)
 
 -- Inputs that were read, before memory was refused.
 pub wanting_after : (reported : List ℕ → Option (Option (List ℕ))) (dvi bytes : List ℕ) (fonts : List NamedPath) (files : List NamedBytes)
@@ -312,15 +312,15 @@ handed_end (Ok fine) fault handed = absurd handed
 handed_end (Err other) fault handed = ap Err handed
 
 -- A task whose input was not read.
-unread_ends : (rules : TaskRules) (fault : FontFileFault) (bytes : Option (List ℕ)) → ((path : Bor (List ℕ)) → fault ≡ File path → rules.IsUnread path)
-    → EndsTask rules (Err (of_font_file fault)) bytes bytes
+unread_ends : (rules : TaskRules) (fault : InputFault) (bytes : Option (List ℕ)) → ((path : Bor (List ℕ)) → fault ≡ UnreadableInput path → rules.IsUnread path)
+    → EndsTask rules (Err (of_input fault)) bytes bytes
 unread_ends rules WantsMemory bytes unread = keeps_same bytes
-unread_ends rules (File path) bytes unread = (unread path refl, keeps_same bytes)
+unread_ends rules (UnreadableInput path) bytes unread = (unread path refl, keeps_same bytes)
 
-pub ends_unread : (rules : TaskRules) (fault : FontFileFault) (end : TaskEnd) (bytes : Option (List ℕ)) → IsErrAnd end (λ other. other ≡ of_font_file fault)
-    → ((path : Bor (List ℕ)) → fault ≡ File path → rules.IsUnread path) → EndsTask rules end bytes bytes
+pub ends_unread : (rules : TaskRules) (fault : InputFault) (end : TaskEnd) (bytes : Option (List ℕ)) → IsErrAnd end (λ other. other ≡ of_input fault)
+    → ((path : Bor (List ℕ)) → fault ≡ UnreadableInput path → rules.IsUnread path) → EndsTask rules end bytes bytes
 ends_unread rules fault end bytes handed unread =
-    subst (λ (it : TaskEnd). EndsTask rules it bytes bytes) (sym (handed_end end (of_font_file fault) handed)) (unread_ends rules fault bytes unread)
+    subst (λ (it : TaskEnd). EndsTask rules it bytes bytes) (sym (handed_end end (of_input fault) handed)) (unread_ends rules fault bytes unread)
 
 -- A task whose text was not printed.
 print_ends : (rules : TaskRules) (fault : PrintFault) (old new : Option (List ℕ))

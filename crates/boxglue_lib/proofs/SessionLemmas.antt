@@ -4,8 +4,8 @@ use Rattle.std.specs.Prelude.{◌==◌, ◌≤◌, length, IfOk}
 use Rattle.std.specs.Io.KnownBytes.{Consumes, IsAtEnd}
 use Rattle.boxglue_words.specs.Hosts.{AreFilesOf, IsUnread, written_to_file}
 use Rattle.boxglue_words.specs.Readings.{Files, IsBeginning, IsReading}
-use Rattle.boxglue_words.specs.declared.font_files.FontFileFault.{FontFileFault}
-use Rattle.boxglue_words.specs.declared.font_files.FontFileFault.TheVariants.{OutOfMemory as WantsMemory, File}
+use Rattle.boxglue_words.specs.declared.input_fault.InputFault.{InputFault}
+use Rattle.boxglue_words.specs.declared.input_fault.InputFault.TheVariants.{OutOfMemory as WantsMemory, Unreadable as UnreadableInput}
 use Rattle.boxglue_words.specs.declared.host.TheConstants.{READ_LIMIT}
 use Rattle.tfm_core.specs.NamedBytes.{NamedBytes}
 use Rattle.boxglue_program.specs.Reports.{written_bytes}
@@ -14,7 +14,7 @@ use Rattle.boxglue_program.specs.declared.session.SessionFault.{SessionFault}
 use Rattle.boxglue_program.specs.declared.session.SessionFault.TheVariants.{OutOfMemory as RefusesMemory, Unreadable as LosesInput}
 use Rattle.boxglue_lib.specs.Ends.{TaskEnd, TellsErrors, TellsOutput, status_of}
 use Rattle.boxglue_lib.specs.Private.Parts.{IsSessionEnd}
-use Rattle.boxglue_lib.specs.Faults.{of_font_file}
+use Rattle.boxglue_lib.specs.Faults.{of_input}
 use Rattle.boxglue_lib.specs.Sessions.{EndsSession, HasSession, HoldsOfFile, LeftToFile}
 use Rattle.boxglue_lib.specs.Typesets.{IsUsed, LeavesHost, OutFile, TellsUnwritten}
 use Rattle.boxglue_lib.specs.Views.{HostView, Streams, view_of}
@@ -134,13 +134,13 @@ session_ends input left files (Err LosesInput) reads end old new k bytes file (p
 
 -- The files of fonts were not read, and that was reported.
 pub not_held : {H : Type 0} (known : H → Files) (created : H → List (List ℕ)) (written : H → Option (List ℕ)) (failures : H → ℕ) (input left : Option (List ℕ)) (host : H)
-    (fonts : List NamedPath) (out : List ℕ) (fault : FontFileFault) (before after : Streams) (status : ℕ)
-    → IsUnread (known host) fonts fault → TellsOutput (Err (of_font_file fault)) before.output after.output → TellsErrors (Err (of_font_file fault)) before.errors after.errors
-    → status ≡ status_of (Err (of_font_file fault))
+    (fonts : List NamedPath) (out : List ℕ) (fault : InputFault) (before after : Streams) (status : ℕ)
+    → IsUnread (known host) fonts fault → TellsOutput (Err (of_input fault)) before.output after.output → TellsErrors (Err (of_input fault)) before.errors after.errors
+    → status ≡ status_of (Err (of_input fault))
     → HasSession written_bytes out fonts (view_of known created written failures input host) (view_of known created written failures left host) before after status
 not_held known created written failures input left host fonts out WantsMemory before after status unread said output_is is =
     inl (refl, record { end = Err OutOfMemory; printed = said; memory = λ _. unread; reported = output_is; status_is = is })
-not_held known created written failures input left host fonts out (File path) before after status unread said output_is is =
+not_held known created written failures input left host fonts out (UnreadableInput path) before after status unread said output_is is =
     inl (refl, record { end = Err (Unreadable path); printed = (unread, said); memory = λ wants. absurd (cc); reported = output_is; status_is = is })
 
 -- A session was held, and its end was reported.

@@ -3,8 +3,8 @@ use Rattle.boxglue_print.specs.declared.output.PaintFault.{PaintFault}
 use Rattle.boxglue_print.specs.declared.output.PaintFault.TheVariants as paints
 use Rattle.boxglue_program.specs.declared.run.RunFault.{RunFault}
 use Rattle.boxglue_program.specs.declared.run.RunFault.TheVariants as runs
-use Rattle.boxglue_words.specs.declared.font_files.FontFileFault.{FontFileFault}
-use Rattle.boxglue_words.specs.declared.font_files.FontFileFault.TheVariants as inputs
+use Rattle.boxglue_words.specs.declared.input_fault.InputFault.{InputFault}
+use Rattle.boxglue_words.specs.declared.input_fault.InputFault.TheVariants as inputs
 use Rattle.boxglue_lib.specs.declared.printing.PrintFault.{PrintFault}
 use Rattle.boxglue_lib.specs.declared.printing.PrintFault.TheVariants as prints
 use Rattle.boxglue_lib.specs.declared.task_fault.TaskFault.{TaskFault}
@@ -16,9 +16,9 @@ of_paint paints.OutOfMemory = prints.OutOfMemory
 of_paint paints.NoSuchPage = prints.NoSuchPage
 
 -- The fault of an input that was not read as one of its task.
-abbrev pub of_font_file : FontFileFault → TaskFault
-of_font_file inputs.OutOfMemory = OutOfMemory
-of_font_file (inputs.File path) = Unreadable path
+abbrev pub of_input : InputFault → TaskFault
+of_input inputs.OutOfMemory = OutOfMemory
+of_input (inputs.Unreadable path) = Unreadable path
 
 -- The fault of a text that was not printed as one of its task.
 abbrev pub of_print : PrintFault → TaskFault

@@ -3,7 +3,7 @@ use Rattle.std.specs.Prelude.{◌⊎◌, ℕ, Bool, List}
 use Rattle.boxglue_print.specs.Outputs.{IsListed, IsPainted, LacksPage}
 use Rattle.boxglue_words.specs.Hosts.{AreFilesOf}
 use Rattle.boxglue_words.specs.Readings.{Files, IsFileReading}
-use Rattle.boxglue_words.specs.declared.font_files.FontFileFault.TheVariants.{OutOfMemory as WantsMemory, File}
+use Rattle.boxglue_words.specs.declared.input_fault.InputFault.TheVariants.{OutOfMemory as WantsMemory, Unreadable}
 use Rattle.raster_core.specs.PaintOptions.{PaintOptionsView}
 use Rattle.tfm_core.specs.NamedBytes.{NamedBytes}
 use Rattle.boxglue_words.specs.declared.fonts.NamedPath.{NamedPath}
@@ -40,7 +40,7 @@ HasNoPage contents options dvi fonts =
 abbrev pub listing_rules : Files → (dvi : List ℕ) → List NamedPath → TaskRules
 listing_rules contents dvi fonts = record {
   IsAnswer = IsListing contents dvi fonts;
-  IsUnread = λ path. IsUnreadDvi contents dvi fonts (File path);
+  IsUnread = λ path. IsUnreadDvi contents dvi fonts (Unreadable path);
   LacksPage = ⊥;
   LacksMemory = LacksMemoryForDvi contents dvi fonts;
 }
@@ -50,7 +50,7 @@ listing_rules contents dvi fonts = record {
 abbrev pub painting_rules : Files → PaintOptionsView → (dvi : List ℕ) → List NamedPath → TaskRules
 painting_rules contents options dvi fonts = record {
   IsAnswer = IsPainting contents options dvi fonts;
-  IsUnread = λ path. IsUnreadDvi contents dvi fonts (File path);
+  IsUnread = λ path. IsUnreadDvi contents dvi fonts (Unreadable path);
   LacksPage = HasNoPage contents options dvi fonts;
   LacksMemory = LacksMemoryForDvi contents dvi fonts;
 }

@@ -3,7 +3,7 @@ use Rattle.std.specs.Prelude.{◌≡◌, ◌==◌, ◌⊎◌, ◌++◌, ◌≤�
 use Rattle.std.specs.Io.KnownBytes.{Appends}
 use Rattle.boxglue_words.specs.Hosts.{AreFilesOf, IsUnread, written_to_file}
 use Rattle.boxglue_words.specs.Readings.{Files, IsBeginning, IsReading}
-use Rattle.boxglue_words.specs.declared.font_files.FontFileFault.TheVariants.{OutOfMemory as WantsMemory, File}
+use Rattle.boxglue_words.specs.declared.input_fault.InputFault.TheVariants.{OutOfMemory as WantsMemory, Unreadable as UnreadableInput}
 use Rattle.boxglue_words.specs.declared.host.TheConstants.{READ_LIMIT}
 use Rattle.boxglue_program.specs.Reports.{Reports}
 use Rattle.boxglue_program.specs.Runs.{WritesFront}
@@ -71,7 +71,7 @@ pub record HasHeld {H : Type 0} (reports : Reports) (out : List ℕ) (files : Li
 abbrev pub unread_rules : Files → List NamedPath → TaskRules
 unread_rules contents fonts = record {
   IsAnswer = λ text fine. ⊥;
-  IsUnread = λ path. IsUnread contents fonts (File path);
+  IsUnread = λ path. IsUnread contents fonts (UnreadableInput path);
   LacksPage = ⊥;
   LacksMemory = IsUnread contents fonts WantsMemory;
 }

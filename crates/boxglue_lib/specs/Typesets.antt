@@ -4,7 +4,7 @@ use Rattle.std.specs.Option.{ForSome}
 use Rattle.std.specs.Io.KnownBytes.{Keeps}
 use Rattle.boxglue_words.specs.Hosts.{AreFilesOf, created_after, has_failed, written_to_file}
 use Rattle.boxglue_words.specs.Readings.{IsReading}
-use Rattle.boxglue_words.specs.declared.font_files.FontFileFault.TheVariants.{OutOfMemory as WantsMemory, File}
+use Rattle.boxglue_words.specs.declared.input_fault.InputFault.TheVariants.{OutOfMemory as WantsMemory, Unreadable}
 use Rattle.boxglue_program.specs.Reports.{Reports}
 use Rattle.boxglue_program.specs.Runs.{IsUntouched, RanScript, RefusedScript}
 use Rattle.tfm_core.specs.NamedBytes.{NamedBytes}
@@ -75,7 +75,7 @@ LacksMemoryForTask reports fonts old new file =
 abbrev pub typesetting_rules : {H : Type 0} → Reports → List NamedPath → (old new : HostView H) → OutFile → TaskRules
 typesetting_rules reports fonts old new file = record {
   IsAnswer = IsTypeset reports fonts old new file;
-  IsUnread = λ path. IsUnreadScript old.files old.input fonts (File path) × IsLeftAlone (IsSame old new) file;
+  IsUnread = λ path. IsUnreadScript old.files old.input fonts (Unreadable path) × IsLeftAlone (IsSame old new) file;
   LacksPage = ⊥;
   LacksMemory = LacksMemoryForTask reports fonts old new file;
 }

@@ -20,9 +20,9 @@ pub use boxglue_program::{
     UnwrittenText, read_script, refuse_memory, run_memory, run_script, write_text,
 };
 pub use boxglue_words::{
-    CreatedPaths, FailureCount, FileDevice, FileHost, FontFileFault, HeldFile, Host, HostFault,
-    HostParts, MemoryFiles, MemoryHost, NamedPath, PaintOptions, READ_LIMIT, StandardInput, Task,
-    VERSION_LINE, WordFault, read_all, read_fonts, read_words, write_some,
+    CreatedPaths, FailureCount, FileDevice, FileHost, HeldFile, Host, HostParts, InputFault,
+    MemoryFiles, MemoryHost, NamedPath, OutputFault, PaintOptions, READ_LIMIT, ReadFault,
+    StandardInput, Task, VERSION_LINE, WordFault, read_all, read_fonts, read_words, write_some,
 };
 pub use inputs::{Inputs, read_dvi_inputs, read_script_inputs};
 pub use printing::{PrintFault, list_file, paint_file};

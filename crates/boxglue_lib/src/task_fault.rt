@@ -1,12 +1,12 @@
 //! Why a task printed no whole text.
 
 ghost use Rattle.std.specs.Prelude.{◌≡◌};
-ghost use Rattle.boxglue_lib.specs.Faults.{of_font_file, of_print, of_run};
+ghost use Rattle.boxglue_lib.specs.Faults.{of_input, of_print, of_run};
 ghost use Rattle.boxglue_lib.specs.declared.task_fault.TaskFault.TheVariants.{OutOfMemory, Unwritten};
 
 use crate::printing::PrintFault;
 use boxglue_program::{RunFault, UnwrittenText};
-use boxglue_words::FontFileFault;
+use boxglue_words::InputFault;
 use std::alloc::AllocError;
 
 /// Why a task did not print its whole text to the output. A task that printed it ends with whether nothing was refused.
@@ -38,13 +38,13 @@ impl From<UnwrittenText> for TaskFault<'_> {
     }
 }
 
-impl<'a> From<FontFileFault<'a>> for TaskFault<'a> {
-    ghost from_gives = { λ unread fault. fault ≡ of_font_file unread };
+impl<'a> From<InputFault<'a>> for TaskFault<'a> {
+    ghost from_gives = { λ unread fault. fault ≡ of_input unread };
 
-    fn from(unread: FontFileFault<'a>) -> TaskFault<'a> {
+    fn from(unread: InputFault<'a>) -> TaskFault<'a> {
         match unread {
-            FontFileFault::OutOfMemory => TaskFault::OutOfMemory,
-            FontFileFault::File(path) => TaskFault::Unreadable(path),
+            InputFault::OutOfMemory => TaskFault::OutOfMemory,
+            InputFault::Unreadable(path) => TaskFault::Unreadable(path),
         }
     }
 }

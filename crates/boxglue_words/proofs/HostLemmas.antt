@@ -12,7 +12,7 @@ use Rattle.dvi_device.specs.Written.{written_then}
 use Rattle.tfm_core.specs.NamedBytes.{NamedBytes}
 use Rattle.boxglue_words.specs.declared.fonts.NamedPath.{NamedPath}
 use Rattle.boxglue_words.specs.Readings.{LosesFront}
-use Rattle.boxglue_words.specs.declared.font_files.FontFileFault.{FontFileFault}
+use Rattle.boxglue_words.specs.declared.input_fault.InputFault.{InputFault}
 use Rattle.boxglue_words.specs.Hosts.{AreFilesOf, IsFileOf, IsUnread, IsUnreadOf, begun_for, just_created, numbers_of, written_to_file}
 
 -- One more font and its file.
@@ -32,7 +32,7 @@ list_split (x ∷ xs) (suc i) d lt = ap (λ l. x ∷ l) (list_split xs i d (omeg
 
 -- The font at an index has no file, and those before it have one.
 pub first_unread : (contents : List ℕ → Option (Option (List ℕ))) (fonts : List NamedPath) (i : ℕ) (font : NamedPath) (files : List NamedBytes)
-    (fault : FontFileFault)
+    (fault : InputFault)
     → i < length fonts → font ≡ get_or fonts i font → AreFilesOf contents (take i fonts) files → IsUnreadOf contents font fault → IsUnread contents fonts fault
 first_unread contents fonts i font files fault lt at read unread = record {
   before = take i fonts;

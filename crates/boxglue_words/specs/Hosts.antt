@@ -5,11 +5,11 @@ use base.Stored.{Gv, gnil, gnum, gcons}
 use Rattle.dvi_device.specs.Beginnings.{Beginning}
 use Rattle.tfm_core.specs.NamedBytes.{NamedBytes}
 use Rattle.boxglue_words.specs.declared.fonts.NamedPath.{NamedPath}
-use Rattle.boxglue_words.specs.declared.host.HostFault.{HostFault}
-use Rattle.boxglue_words.specs.declared.host.HostFault.TheVariants.{OutOfMemory, Failed}
+use Rattle.boxglue_words.specs.declared.host.ReadFault.{ReadFault}
+use Rattle.boxglue_words.specs.declared.host.ReadFault.TheVariants as reads
 use Rattle.boxglue_words.specs.Readings.{Files, IsFileReading, IsReadableFile, IsUnreadableFile}
-use Rattle.boxglue_words.specs.declared.font_files.FontFileFault.{FontFileFault}
-use Rattle.boxglue_words.specs.declared.font_files.FontFileFault.TheVariants.{OutOfMemory as WantsMemory, File}
+use Rattle.boxglue_words.specs.declared.input_fault.InputFault.{InputFault}
+use Rattle.boxglue_words.specs.declared.input_fault.InputFault.TheVariants.{OutOfMemory, Unreadable}
 
 -- The bytes of a file that was just created: none, if they are known.
 abbrev pub just_created : Option (List ℕ) → Option (List ℕ)
@@ -41,9 +41,9 @@ abbrev pub has_failed : (before now : ℕ) → Bool
 has_failed before now = not (now == before)
 
 -- The fault of a reading at a path: out of memory, or the path that cannot be read.
-abbrev pub fault_at : (path : Bor (List ℕ)) → HostFault → FontFileFault
-fault_at path OutOfMemory = WantsMemory
-fault_at path Failed = File path
+abbrev pub fault_at : (path : Bor (List ℕ)) → ReadFault → InputFault
+fault_at path reads.OutOfMemory = OutOfMemory
+fault_at path reads.Unreadable = Unreadable path
 
 -- The file of a font: it has its name, and the bytes at its path.
 pub record IsFileOf (contents : Files) (font : NamedPath) (file : NamedBytes) : Type 0 where
@@ -58,12 +58,12 @@ AreFilesOf contents (font ∷ fonts) [] = ⊥
 AreFilesOf contents (font ∷ fonts) (file ∷ files) = IsFileOf contents font file × AreFilesOf contents fonts files
 
 -- The file of a font was not read: out of memory, where the file can be read; or it cannot be read, and its path is named.
-abbrev pub IsUnreadOf : Files → NamedPath → FontFileFault → Type 0
-IsUnreadOf contents font WantsMemory = IsReadableFile (contents font.path.now)
-IsUnreadOf contents font (File path) = (path.now ≡ font.path.now) × IsUnreadableFile (contents font.path.now)
+abbrev pub IsUnreadOf : Files → NamedPath → InputFault → Type 0
+IsUnreadOf contents font OutOfMemory = IsReadableFile (contents font.path.now)
+IsUnreadOf contents font (Unreadable path) = (path.now ≡ font.path.now) × IsUnreadableFile (contents font.path.now)
 
 -- The file of a font was not read; those of the fonts before it were.
-pub record IsUnread (contents : Files) (fonts : List NamedPath) (fault : FontFileFault) : Type 0 where
+pub record IsUnread (contents : Files) (fonts : List NamedPath) (fault : InputFault) : Type 0 where
   pub before : List NamedPath
   pub files : List NamedBytes
   pub font : NamedPath

@@ -6,7 +6,7 @@ ghost use Rattle.std.specs.Option.{ForSome};
 ghost use Rattle.dvi_device.specs.Written.{written_then};
 ghost use Rattle.boxglue_words.specs.Hosts.{created_after, written_to_file};
 
-use crate::host::{FileHost, HostFault};
+use crate::host::{FileHost, OutputFault};
 use dvi_device::{Device, DeviceFault, Snapshot};
 
 /// A device that writes a file at a path of its host. It creates the file at its first write, so a script that ships nothing leaves an existing file
@@ -67,8 +67,8 @@ impl<'a, H: FileHost> FileDevice<'a, H> {
     }
 }
 
-impl From<HostFault> for DeviceFault {
-    fn from(_fault: HostFault) -> DeviceFault {
+impl From<OutputFault> for DeviceFault {
+    fn from(_fault: OutputFault) -> DeviceFault {
         DeviceFault
     }
 }

@@ -1,57 +1,20 @@
 //! The font files that a command line names.
 
 ghost use Rattle.std.specs.Prelude.{◌≡◌, ◌++◌, ◌∷◌, [], List, IfOk, IfErr, OnOk};
-ghost use Rattle.boxglue_words.specs.Hosts.{AreFilesOf, IsFileOf, IsUnread, IsUnreadOf, fault_at};
-ghost use Rattle.boxglue_words.specs.declared.font_files.FontFileFault.TheVariants.{OutOfMemory};
+ghost use Rattle.boxglue_words.specs.Hosts.{AreFilesOf, IsFileOf, IsUnread, IsUnreadOf};
 
 use crate::NamedPath;
-use crate::host::{FileHost, HostFault};
-use std::alloc::{AllocError, AllocFailed, Global};
+use crate::host::FileHost;
+use crate::input_fault::InputFault;
+use std::alloc::Global;
 use tfm_core::FontFile;
-
-/// Why font files were not read.
-#[derive(Debug, Drop)]
-pub enum FontFileFault<'a> {
-    /// A growth of memory was refused, for a file that can be read.
-    OutOfMemory,
-    /// The file at this path could not be read.
-    File(&'a str),
-}
-
-impl From<AllocError> for FontFileFault<'_> {
-    ghost from_gives = { λ _ fault. fault ≡ OutOfMemory };
-
-    fn from(_error: AllocError) -> Self {
-        FontFileFault::OutOfMemory
-    }
-}
-
-impl<T: Drop> From<AllocFailed<T>> for FontFileFault<'_> {
-    ghost from_gives = { λ _ fault. fault ≡ OutOfMemory };
-
-    fn from(_failed: AllocFailed<T>) -> Self {
-        FontFileFault::OutOfMemory
-    }
-}
-
-impl HostFault {
-    /// The fault of a reading at a path; `-` is standard input.
-    pub fn at(self, path: &str) -> FontFileFault<'_>
-        ensures { result ≡ fault_at path.entry self }
-    {
-        match self {
-            HostFault::OutOfMemory => FontFileFault::OutOfMemory,
-            HostFault::Failed => FontFileFault::File(path),
-        }
-    }
-}
 
 /// The file of a font.
 fn read_font<'a, H: FileHost>(
     alloc: Global,
     host: &H,
     font: &NamedPath<'a>,
-) -> Result<FontFile, FontFileFault<'a>>
+) -> Result<FontFile, InputFault<'a>>
     ensures ok { IfOk result (IsFileOf (H.file host.now) font.now) }
     ensures err { IfErr result (IsUnreadOf (H.file host.now) font.now) }
 {
@@ -67,7 +30,7 @@ fn push_font<'a, H: FileHost>(
     host: &H,
     font: &NamedPath<'a>,
     files: &mut Vec<FontFile>,
-) -> Result<(), FontFileFault<'a>>
+) -> Result<(), InputFault<'a>>
     ensures ok { (before : List NamedPath) → AreFilesOf (H.file host.now) before files.old.items
         → OnOk result (AreFilesOf (H.file host.now) (before ++ font.now ∷ []) files.new.items) }
     ensures err { IfErr result (IsUnreadOf (H.file host.now) font.now) }
@@ -79,13 +42,13 @@ fn push_font<'a, H: FileHost>(
 
 /// Reads the files of fonts, in order.
 ///
-/// Errors: File with the path of the first one that cannot be read, OutOfMemory for a refused growth at one that can be. Those before it were read,
-/// and those after it are not.
+/// Errors: Unreadable with the path of the first one that cannot be read, OutOfMemory for a refused growth at one that can be. Those before it were
+/// read, and those after it are not.
 pub fn read_fonts<'a, H: FileHost>(
     alloc: Global,
     host: &H,
     fonts: &[NamedPath<'a>],
-) -> Result<Vec<FontFile>, FontFileFault<'a>>
+) -> Result<Vec<FontFile>, InputFault<'a>>
     ensures ok { IfOk result (λ files. AreFilesOf (H.file host.now) fonts.now files.items) }
     ensures err { IfErr result (IsUnread (H.file host.now) fonts.now) }
 {

@@ -1,7 +1,7 @@
 //! What the program needs from its host.
 
 ghost use Rattle.std.specs.Prelude.{◌≡◌};
-ghost use Rattle.boxglue_words.specs.declared.host.HostFault.TheVariants.{OutOfMemory};
+ghost use Rattle.boxglue_words.specs.declared.host.ReadFault.TheVariants.{OutOfMemory};
 
 use std::alloc::{AllocError, Global};
 use std::io::Read;
@@ -15,23 +15,34 @@ pub fn limit_of_a_reading()
     ensures { READ_LIMIT ≡ 268435456 }
 {}
 
-/// Why a host did not do what it was asked.
+/// Why a host did not read a file or standard input.
 #[derive(Clone, Copy, Debug, PartialEq, Eq, Error)]
-pub enum HostFault {
+pub enum ReadFault {
     /// A growth of memory was refused.
     #[error("a growth of memory was refused")]
     OutOfMemory,
-    /// The file or standard input could not be read or is over `READ_LIMIT` bytes, or the file could not be created or written.
-    #[error("the file could not be read or written")]
-    Failed,
+    /// It could not be read, or is over `READ_LIMIT` bytes.
+    #[error("the file could not be read")]
+    Unreadable,
 }
 
-impl From<AllocError> for HostFault {
+impl From<AllocError> for ReadFault {
     ghost from_gives = { λ _ fault. fault ≡ OutOfMemory };
 
-    fn from(_error: AllocError) -> HostFault {
-        HostFault::OutOfMemory
+    fn from(_error: AllocError) -> ReadFault {
+        ReadFault::OutOfMemory
     }
+}
+
+/// Why a host did not create its file, or did not write to it.
+#[derive(Clone, Copy, Debug, PartialEq, Eq, Error)]
+pub enum OutputFault {
+    /// A growth of memory was refused.
+    #[error("a growth of memory was refused")]
+    OutOfMemory,
+    /// The file could not be created or written.
+    #[error("the file could not be written")]
+    Unwritten,
 }
 
 /// Standard input. It is read as it comes (`Read`), or whole. Contracts may know what it has left; of that of a real program they know nothing.
@@ -39,11 +50,11 @@ pub trait StandardInput: Read {
     ghost use Rattle.std.specs.Prelude.{◌≡◌, Err, IfOk};
     ghost use Rattle.boxglue_words.specs.Readings.{IsReadable, IsReading, IsUnreadable};
 
-    /// Reads all bytes that are left. OutOfMemory only if they can be read; Failed if they cannot, or are more than `READ_LIMIT`.
-    fn read_whole(self, alloc: Global) -> Result<Vec<u8>, HostFault>
+    /// Reads all bytes that are left. OutOfMemory only if they can be read; Unreadable if they cannot, or are more than `READ_LIMIT`.
+    fn read_whole(self, alloc: Global) -> Result<Vec<u8>, ReadFault>
         ensures ok { IfOk result (λ read. IsReading (Self.remaining self) read.items) }
-        ensures failed { result ≡ Err HostFault.Failed → IsUnreadable (Self.remaining self) }
-        ensures memory { result ≡ Err HostFault.OutOfMemory → IsReadable (Self.remaining self) };
+        ensures failed { result ≡ Err ReadFault.Unreadable → IsUnreadable (Self.remaining self) }
+        ensures memory { result ≡ Err ReadFault.OutOfMemory → IsReadable (Self.remaining self) };
 }
 
 /// The parts of a host.
@@ -98,15 +109,15 @@ pub trait FileHost {
     /// How many creations and writes have failed.
     ghost failures: { Self → ℕ };
 
-    /// Reads all bytes of the file at a path. OutOfMemory only if the file can be read; Failed if it cannot, or is too large.
-    fn read_file(&self, alloc: Global, path: &str) -> Result<Vec<u8>, HostFault>
+    /// Reads all bytes of the file at a path. OutOfMemory only if the file can be read; Unreadable if it cannot, or is too large.
+    fn read_file(&self, alloc: Global, path: &str) -> Result<Vec<u8>, ReadFault>
         ensures ok { IfOk result (λ read. IsFileReading (file self.now path.now) read.items) }
-        ensures failed { result ≡ Err HostFault.Failed → IsUnreadableFile (file self.now path.now) }
-        ensures memory { result ≡ Err HostFault.OutOfMemory → IsReadableFile (file self.now path.now) };
+        ensures failed { result ≡ Err ReadFault.Unreadable → IsUnreadableFile (file self.now path.now) }
+        ensures memory { result ≡ Err ReadFault.OutOfMemory → IsReadableFile (file self.now path.now) };
 
     /// Makes the file at a path an empty one, to which `write` appends. After an error no file was created, the bytes of the one before are as they
     /// were, and the failure is counted.
-    fn create(&mut self, path: &str) -> Result<(), HostFault>
+    fn create(&mut self, path: &str) -> Result<(), OutputFault>
         ensures path { OnOk result (created self.new ≡ path.now ∷ created self.old) }
         ensures path_kept { OnErr result (created self.new ≡ created self.old) }
         ensures empty { OnOk result (written self.new ≡ just_created (written self.old)) }
@@ -116,7 +127,7 @@ pub trait FileHost {
 
     /// Appends a piece or a beginning of it to the created file, and returns how many bytes it took, at least one. After an error it took none, and
     /// the failure is counted.
-    fn write(&mut self, piece: &[u8]) -> Result<usize, HostFault>
+    fn write(&mut self, piece: &[u8]) -> Result<usize, OutputFault>
         requires piece_not_empty { 0 < length piece.now }
         ensures path_same { created self.new ≡ created self.old }
         ensures count_bounded { IfOk result (λ n. (1 ≤ n) × (n ≤ length piece.now)) }

@@ -13,6 +13,7 @@ mod file_device;
 mod font_files;
 mod fonts;
 mod host;
+mod input_fault;
 pub mod laws;
 mod memory_host;
 mod pairs;
@@ -25,11 +26,13 @@ pub use command::command_line;
 pub use created_paths::CreatedPaths;
 pub use failure_count::FailureCount;
 pub use file_device::FileDevice;
-pub use font_files::{FontFileFault, read_fonts};
+pub use font_files::read_fonts;
 pub use fonts::{NamedPath, WordFault};
 pub use host::{
-    FileHost, Host, HostFault, HostParts, READ_LIMIT, StandardInput, limit_of_a_reading,
+    FileHost, Host, HostParts, OutputFault, READ_LIMIT, ReadFault, StandardInput,
+    limit_of_a_reading,
 };
+pub use input_fault::InputFault;
 pub use memory_host::{HeldFile, MemoryFiles, MemoryHost};
 pub use pairs::read_pairs;
 pub use raster_core::PaintOptions;

@@ -7,7 +7,7 @@ ghost use Rattle.boxglue_words.specs.declared.host.TheConstants.{READ_LIMIT};
 
 use crate::created_paths::CreatedPaths;
 use crate::failure_count::FailureCount;
-use crate::host::{FileHost, Host, HostFault, HostParts, READ_LIMIT, StandardInput};
+use crate::host::{FileHost, Host, HostParts, OutputFault, READ_LIMIT, ReadFault, StandardInput};
 use std::alloc::Global;
 use std::io::Cursor;
 use std::marker::Model;
@@ -108,14 +108,14 @@ impl MemoryFiles {
     }
 
     /// Stores the path of a file that is created. If memory is refused, all is as before and the failure is counted.
-    fn keep_path(&mut self, path: &str) -> Result<(), HostFault>
+    fn keep_path(&mut self, path: &str) -> Result<(), OutputFault>
         ensures ok { OnOk result (self.new ≡ record self.old { is_created = true; created = path.now; paths = path.now ∷ self.old.paths }) }
         ensures err { OnErr result (self.new ≡ record self.old { failures = self.old.failures + 1 }) }
-        ensures memory { IfErr result (λ fault. fault ≡ HostFault.OutOfMemory) }
+        ensures memory { IfErr result (λ fault. fault ≡ OutputFault.OutOfMemory) }
     {
         let Ok(created) = Vec::from_slice(self.alloc, path.as_bytes()) else {
             self.failures.raise();
-            return Err(HostFault::OutOfMemory);
+            return Err(OutputFault::OutOfMemory);
         };
         self.is_created = true;
         self.created = created;
@@ -124,14 +124,14 @@ impl MemoryFiles {
     }
 }
 
-/// A copy of bytes, as a reading gives it: Failed if there are over `READ_LIMIT`, OutOfMemory if memory is refused.
-fn copy(alloc: Global, bytes: &[u8]) -> Result<Vec<u8>, HostFault>
+/// A copy of bytes, as a reading gives it: Unreadable if there are over `READ_LIMIT`, OutOfMemory if memory is refused.
+fn copy(alloc: Global, bytes: &[u8]) -> Result<Vec<u8>, ReadFault>
     ensures ok { IfOk result (λ read. (read.items ≡ bytes.now) × (length bytes.now ≤ READ_LIMIT)) }
-    ensures failed { result ≡ Err HostFault.Failed → READ_LIMIT < length bytes.now }
-    ensures memory { result ≡ Err HostFault.OutOfMemory → length bytes.now ≤ READ_LIMIT }
+    ensures failed { result ≡ Err ReadFault.Unreadable → READ_LIMIT < length bytes.now }
+    ensures memory { result ≡ Err ReadFault.OutOfMemory → length bytes.now ≤ READ_LIMIT }
 {
     if bytes.len() > READ_LIMIT {
-        return Err(HostFault::Failed);
+        return Err(ReadFault::Unreadable);
     }
     Ok(Vec::from_slice(alloc, bytes)?)
 }
@@ -155,36 +155,36 @@ impl FileHost for MemoryFiles {
 
     ghost failures = { λ host. host.failures };
 
-    fn read_file(&self, alloc: Global, path: &str) -> Result<Vec<u8>, HostFault> {
+    fn read_file(&self, alloc: Global, path: &str) -> Result<Vec<u8>, ReadFault> {
         match held_at(&self.files, path.as_bytes()) {
             Some(bytes) => copy(alloc, bytes),
-            None => Err(HostFault::Failed),
+            None => Err(ReadFault::Unreadable),
         }
     }
 
-    fn create(&mut self, path: &str) -> Result<(), HostFault>
+    fn create(&mut self, path: &str) -> Result<(), OutputFault>
         ensures made { OnOk result
             (self.new ≡ record self.old { is_created = true; created = path.now; written = []; paths = path.now ∷ self.old.paths }) }
         ensures unchanged { OnErr result (self.new ≡ record self.old { failures = self.old.failures + 1 }) }
-        ensures memory { IfErr result (λ fault. fault ≡ HostFault.OutOfMemory) }
+        ensures memory { IfErr result (λ fault. fault ≡ OutputFault.OutOfMemory) }
     {
         self.keep_path(path)?;
         self.written.clear();
         Ok(())
     }
 
-    fn write(&mut self, piece: &[u8]) -> Result<usize, HostFault>
+    fn write(&mut self, piece: &[u8]) -> Result<usize, OutputFault>
         requires piece_not_empty { 0 < length piece.now }
         ensures all { IfOk result (λ n. n ≡ length piece.now) }
         ensures kept { OnOk result (self.new ≡ record self.old { written = self.old.written ++ piece.now }) }
         ensures unchanged { OnErr result (self.new ≡ record self.old { failures = self.old.failures + 1 }) }
-        ensures memory { IfErr result (λ fault. fault ≡ HostFault.OutOfMemory) }
+        ensures memory { IfErr result (λ fault. fault ≡ OutputFault.OutOfMemory) }
     {
         match self.written.extend_from_slice(piece) {
             Ok(()) => Ok(piece.len()),
             Err(_) => {
                 self.failures.raise();
-                Err(HostFault::OutOfMemory)
+                Err(OutputFault::OutOfMemory)
             }
         }
     }
@@ -228,7 +228,7 @@ impl MemoryHost {
 }
 
 impl StandardInput for Cursor<Vec<u8>> {
-    fn read_whole(self, alloc: Global) -> Result<Vec<u8>, HostFault> {
+    fn read_whole(self, alloc: Global) -> Result<Vec<u8>, ReadFault> {
         let bytes = self.get_ref().as_slice();
         let start = self.position().min(bytes.len() as u64);
         copy(alloc, &bytes[start as usize..])

@@ -1,8 +1,8 @@
 //! Hosts, and runs of the program over them.
 
 use boxglue_lib::{
-    CreatedPaths, FailureCount, FileHost, HeldFile, Host, HostFault, HostParts, MemoryFiles,
-    MemoryHost, StandardInput, program, read_all, write_some,
+    CreatedPaths, FailureCount, FileHost, HeldFile, Host, HostParts, MemoryFiles, MemoryHost,
+    OutputFault, ReadFault, StandardInput, program, read_all, write_some,
 };
 use std::alloc::Global;
 use std::io;
@@ -113,21 +113,21 @@ impl FileHost for UnwritableFiles {
 
     ghost failures = { λ host. host.failures.count };
 
-    fn read_file(&self, alloc: Global, path: &str) -> Result<Vec<u8>, HostFault> {
+    fn read_file(&self, alloc: Global, path: &str) -> Result<Vec<u8>, ReadFault> {
         self.inner.read_file(alloc, path)
     }
 
-    fn create(&mut self, path: &str) -> Result<(), HostFault> {
+    fn create(&mut self, path: &str) -> Result<(), OutputFault> {
         if self.creates {
             self.created.add(path);
             Ok(())
         } else {
             self.failures.raise();
-            Err(HostFault::Failed)
+            Err(OutputFault::Unwritten)
         }
     }
 
-    fn write(&mut self, piece: &[u8]) -> Result<usize, HostFault> {
+    fn write(&mut self, piece: &[u8]) -> Result<usize, OutputFault> {
         let written = write_some(&mut ClosedWriter, piece);
         if written.is_err() {
             self.failures.raise();
@@ -193,7 +193,7 @@ impl Read for Breaking {
 }
 
 impl StandardInput for Breaking {
-    fn read_whole(mut self, alloc: Global) -> Result<Vec<u8>, HostFault> {
+    fn read_whole(mut self, alloc: Global) -> Result<Vec<u8>, ReadFault> {
         read_all(alloc, &mut self)
     }
 }

@@ -1,7 +1,7 @@
 //! Readers and writers that give or take little in each call, or nothing, or are interrupted.
 
 use boxglue_program::{UnwrittenText, write_text};
-use boxglue_words::{HostFault, read_all, read_within, write_some};
+use boxglue_words::{OutputFault, ReadFault, read_all, read_within, write_some};
 use std::io;
 use std::io::{Error, ErrorKind, Read, Write};
 
@@ -61,7 +61,7 @@ fn readings_without_an_end(rt: HostRuntime) {
     for limit in [0, 1, 1_000, 65_537] {
         let mut reader = InterruptedReader { calls: 0 };
         let read = read_within(rt.alloc(), &mut reader, limit);
-        assert_eq!(rt; read.err(), Some(HostFault::Failed));
+        assert_eq!(rt; read.err(), Some(ReadFault::Unreadable));
         assert_eq!(rt; reader.calls, limit);
     }
 }
@@ -122,7 +122,7 @@ impl Write for Idle {
 #[test]
 fn a_piece_for_a_writer_that_takes_nothing(rt: HostRuntime) {
     let mut writer = Idle { calls: 0 };
-    assert_eq!(rt; write_some(&mut writer, b"ab"), Err(HostFault::Failed));
+    assert_eq!(rt; write_some(&mut writer, b"ab"), Err(OutputFault::Unwritten));
     assert_eq!(rt; writer.calls, 1);
 }
 
