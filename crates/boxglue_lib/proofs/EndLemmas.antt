@@ -104,12 +104,12 @@ output_then rules (Err NoSuchPage) old mid new ended reported = (ended.0, keeps_
 
 -- What is known of a device that writes a file, in terms of a script that was typeset.
 pub answered_to_file : (text : List ℕ) (files : List NamedBytes) (start : ℕ) (begun : Bool) (failures : ℕ) (back : Option (List ℕ)) (Same Kept : Type 0) (answer : List ℕ) (fine : Bool) (file : OutFile)
-    → start ≡ 0 → file.created ≡ begun → file.done ≡ (failures == 0) → file.written ≡ back → (Same → begun ≡ false) → (Same → failures ≡ 0) → (Same → Kept)
+    → start ≡ 0 → file.is_created ≡ begun → file.done ≡ (failures == 0) → file.written ≡ back → (Same → begun ≡ false) → (Same → failures ≡ 0) → (Same → Kept)
     → IsUsed file → RanScript written_bytes text files start failures (written_to_file begun back) answer fine ⊎ (RefusedScript text answer fine × Same) → IsToFile written_bytes text files Kept file answer fine
 answered_to_file text files start begun failures back Same Kept answer fine file fresh opened counted kept closed none same used (inl ran) =
     let at_start = subst (λ (n : ℕ). RanScript written_bytes text files n failures (written_to_file begun back) answer fine) fresh ran in
     let at_open = subst (λ (is : Bool). RanScript written_bytes text files 0 failures (written_to_file is back) answer fine) (sym opened) at_start in
-    inl (failures, subst (λ (bytes : Option (List ℕ)). RanScript written_bytes text files 0 failures (written_to_file file.created bytes) answer fine) (sym kept) at_open, counted, used)
+    inl (failures, subst (λ (bytes : Option (List ℕ)). RanScript written_bytes text files 0 failures (written_to_file file.is_created bytes) answer fine) (sym kept) at_open, counted, used)
 answered_to_file text files start begun failures back Same Kept answer fine file fresh opened counted kept closed none same used (inr refused) =
     inr (
       refused.0,
@@ -127,7 +127,7 @@ RanUnanswered text files n k bytes_written = (answer : List ℕ) × (fine : Bool
 
 -- What is known of such a device if memory was refused.
 pub left_to_file : (text : List ℕ) (files : List NamedBytes) (start : ℕ) (begun : Bool) (failures : ℕ) (back : Option (List ℕ)) (file : OutFile)
-    → start ≡ 0 → file.created ≡ begun → file.done ≡ (failures == 0) → file.written ≡ back → IsUsed file
+    → start ≡ 0 → file.is_created ≡ begun → file.done ≡ (failures == 0) → file.written ≡ back → IsUsed file
     → IsUntouched start failures (written_to_file begun back) ⊎ RanUnanswered text files start failures (written_to_file begun back) → IsLeftToFile written_bytes text files file
 left_to_file text files start begun failures back file fresh opened counted kept used left =
     let at_start = subst
@@ -135,7 +135,7 @@ left_to_file text files start begun failures back file fresh opened counted kept
     let at_open = subst
     (λ (is : Bool). IsUntouched 0 failures (written_to_file is back) ⊎ RanUnanswered text files 0 failures (written_to_file is back)) (sym opened) at_start in (
       failures,
-      subst (λ (bytes : Option (List ℕ)). IsUntouched 0 failures (written_to_file file.created bytes) ⊎ RanUnanswered text files 0 failures (written_to_file file.created bytes)) (sym kept) at_open,
+      subst (λ (bytes : Option (List ℕ)). IsUntouched 0 failures (written_to_file file.is_created bytes) ⊎ RanUnanswered text files 0 failures (written_to_file file.is_created bytes)) (sym kept) at_open,
       counted,
       used,
     )
@@ -255,7 +255,7 @@ pub not_typeset : {H : Type 0} (known : H → Files) (created : H → List (List
 not_typeset known created written failures input left host fonts out fault before after status unread said output_is is =
     let old = view_of known created written failures input host in
     let new = view_of known created written failures left host in
-    let file : OutFile = record { created = false; done = true; written = written host } in
+    let file : OutFile = record { is_created = false; done = true; written = written host } in
     let alone : IsLeftAlone (IsSame old new) file = record { same = refl; closed = refl; silent = refl } in
     record {
       end = Err (of_input fault);
@@ -268,7 +268,7 @@ not_typeset known created written failures input left host fonts out fault befor
     }
 
 -- A file whose script made no page, or for which nothing was run, was not created, if it is known what it took and no write failed.
-pub not_created : (created done : Bool) (written : Option (List ℕ)) → IsUsed (record { created = created; done = done; written = written }) → done ≡ true → IsSome written
+pub not_created : (created done : Bool) (written : Option (List ℕ)) → IsUsed (record { is_created = created; done = done; written = written }) → done ≡ true → IsSome written
     → IfSome (written_to_file created written) (λ bytes. bytes ≡ []) → created ≡ false
 not_created false done written used fine reported empty = refl
 not_created true done None used fine reported empty = cc

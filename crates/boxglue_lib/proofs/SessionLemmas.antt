@@ -37,10 +37,10 @@ is_beginning (Some xs) (Some ys) text taken = (ys, taken)
 
 -- What is known of a device that writes a file, in terms of the file.
 pub holds_of_file : (Holds : ℕ → Option (List ℕ) → Type 0) (begun : Bool) (failures : ℕ) (back : Option (List ℕ)) (file : OutFile)
-    → file.created ≡ begun → file.done ≡ (failures == 0) → file.written ≡ back → IsUsed file → Holds failures (written_to_file begun back) → HoldsOfFile Holds file
+    → file.is_created ≡ begun → file.done ≡ (failures == 0) → file.written ≡ back → IsUsed file → Holds failures (written_to_file begun back) → HoldsOfFile Holds file
 holds_of_file Holds begun failures back file opened counted kept used holds =
     let at_open = subst (λ (is : Bool). Holds failures (written_to_file is back)) (sym opened) holds in
-    (failures, subst (λ (bytes : Option (List ℕ)). Holds failures (written_to_file file.created bytes)) (sym kept) at_open, counted, used)
+    (failures, subst (λ (bytes : Option (List ℕ)). Holds failures (written_to_file file.is_created bytes)) (sym kept) at_open, counted, used)
 
 -- The whole input was run.
 abbrev pub SessionRun : (input left : Option (List ℕ)) → List NamedBytes → (reads : Bool) → (old new : Option (List ℕ)) → (k : ℕ) → Option (List ℕ) → Bool → Type 0

@@ -33,13 +33,13 @@ output_weaker rules weaker (Err NoSuchPage) old new f u l h = (l h.0, h.1)
 to_file_unsaid : (text : List ℕ) (files : List NamedBytes) (Same : Type 0) (file : OutFile) (answer : List ℕ) (fine : Bool)
     → IsToFile written_bytes text files Same file answer fine → IsToFile any_bytes text files Same file answer fine
 to_file_unsaid text files Same file answer fine (inl (failed, ran, done, used)) =
-    inl (failed, script_unsaid text files 0 failed (written_to_file file.created file.written) answer fine ran, done, used)
+    inl (failed, script_unsaid text files 0 failed (written_to_file file.is_created file.written) answer fine ran, done, used)
 to_file_unsaid text files Same file answer fine (inr refused) = inr refused
 
 left_unsaid : (text : List ℕ) (files : List NamedBytes) (file : OutFile) → IsLeftToFile written_bytes text files file → IsLeftToFile any_bytes text files file
 left_unsaid text files file (failed, inl none, done, used) = (failed, inl none, done, used)
 left_unsaid text files file (failed, inr (answer, fine, ran), done, used) =
-    (failed, inr (answer, fine, script_unsaid text files 0 failed (written_to_file file.created file.written) answer fine ran), done, used)
+    (failed, inr (answer, fine, script_unsaid text files 0 failed (written_to_file file.is_created file.written) answer fine ran), done, used)
 
 lacks_unsaid : {H : Type 0} (fonts : List NamedPath) (old new : HostView H) (file : OutFile) → LacksMemoryForTask written_bytes fonts old new file
     → LacksMemoryForTask any_bytes fonts old new file
@@ -103,7 +103,7 @@ cut_unsaid text files n k bytes_written answer (stopped, whole, none) = (stopped
 
 held_of_file : (P Q : ℕ → Option (List ℕ) → Type 0) (file : OutFile) → ((failed : ℕ) (bytes_written : Option (List ℕ)) → P failed bytes_written → Q failed bytes_written)
     → HoldsOfFile P file → HoldsOfFile Q file
-held_of_file P Q file f (failed, holds, done, used) = (failed, f failed (written_to_file file.created file.written) holds, done, used)
+held_of_file P Q file f (failed, holds, done, used) = (failed, f failed (written_to_file file.is_created file.written) holds, done, used)
 
 unfinished_unsaid : (input : Option (List ℕ)) (files : List NamedBytes) (file : OutFile) (answer : List ℕ)
     → LeftToFile written_bytes input files file answer → LeftToFile any_bytes input files file answer

@@ -18,7 +18,7 @@ use Rattle.boxglue_lib.specs.declared.task_fault.TaskFault.TheVariants.{Unwritte
 -- What is known of a file after its new device was used: this holds of how often the device has failed and of the bytes that it reports.
 abbrev pub HoldsOfFile : (Holds : (failed : ℕ) → (bytes_written : Option (List ℕ)) → Type 0) → OutFile → Type 0
 HoldsOfFile Holds file =
-    (failed : ℕ) × Holds failed (written_to_file file.created file.written) × (file.done ≡ (failed == 0)) × IsUsed file
+    (failed : ℕ) × Holds failed (written_to_file file.is_created file.written) × (file.done ≡ (failed == 0)) × IsUsed file
 
 -- The whole input was run on a file, and the job was finished.
 abbrev pub RanToFile : Reports → (input : Option (List ℕ)) → List NamedBytes → OutFile → (answer : List ℕ) → (fine : Bool) → Type 0

@@ -17,25 +17,25 @@ use Rattle.boxglue_lib.specs.declared.task_fault.TaskFault.TheVariants.{OutOfMem
 -- The file OUT of a `typeset` that has ended: whether it was created; whether no creation and no write of it failed; and the bytes that it took, if
 -- they are known.
 pub record OutFile : Type 0 where
-  pub created : Bool
+  pub is_created : Bool
   pub done : Bool
   pub written : Option (List ℕ)
 
 -- Nothing was run: the host was returned as it was, no file was created, and no failure is to report.
 pub record IsLeftAlone (Same : Type 0) (file : OutFile) : Type 0 where
   pub same : Same
-  pub closed : file.created ≡ false
+  pub closed : file.is_created ≡ false
   pub silent : file.done ≡ true
 
 -- If a file was created and took all that was written to it, it has taken a byte, if it is known what it took.
 abbrev pub IsUsed : OutFile → Type 0
-IsUsed file = file.created ≡ true → file.done ≡ true → ForSome file.written (λ bytes. bytes ≢ [])
+IsUsed file = file.is_created ≡ true → file.done ≡ true → ForSome file.written (λ bytes. bytes ≢ [])
 
 -- A script was run with these font files on a new device that writes a file, and this is what is then known of that file; or the script is bad, and
 -- nothing was run.
 abbrev pub IsToFile : Reports → (text : List ℕ) → List NamedBytes → (Same : Type 0) → OutFile → (answer : List ℕ) → (fine : Bool) → Type 0
 IsToFile reports text files Same file answer fine =
-    ((failed : ℕ) × RanScript reports text files 0 failed (written_to_file file.created file.written) answer fine × (file.done ≡ (failed == 0))
+    ((failed : ℕ) × RanScript reports text files 0 failed (written_to_file file.is_created file.written) answer fine × (file.done ≡ (failed == 0))
     × IsUsed file)
     ⊎ (RefusedScript text answer fine × IsLeftAlone Same file)
 
@@ -44,8 +44,8 @@ IsToFile reports text files Same file answer fine =
 abbrev pub IsLeftToFile : Reports → (text : List ℕ) → List NamedBytes → OutFile → Type 0
 IsLeftToFile reports text files file =
     (failed : ℕ)
-    × (IsUntouched 0 failed (written_to_file file.created file.written)
-    ⊎ ((answer : List ℕ) × (fine : Bool) × RanScript reports text files 0 failed (written_to_file file.created file.written) answer fine))
+    × (IsUntouched 0 failed (written_to_file file.is_created file.written)
+    ⊎ ((answer : List ℕ) × (fine : Bool) × RanScript reports text files 0 failed (written_to_file file.is_created file.written) answer fine))
     × (file.done ≡ (failed == 0)) × IsUsed file
 
 -- The rules of a script that was read and is run on a new device that writes a file. All files were read, so no path is unread.
@@ -85,9 +85,9 @@ typesetting_rules reports fonts old new file = record {
 -- has failed meanwhile if and only if the file did not take all.
 pub record LeavesHost {H : Type 0} (out : List ℕ) (old new : HostView H) (file : OutFile) : Type 0 where
   pub written : file.written ≡ new.written
-  pub placed : new.created ≡ created_after file.created out old.created
-  pub untouched : file.created ≡ false → new.written ≡ old.written
-  pub unchanged : file.created ≡ false → file.done ≡ true → IsSame old new
+  pub placed : new.created ≡ created_after file.is_created out old.created
+  pub untouched : file.is_created ≡ false → new.written ≡ old.written
+  pub unchanged : file.is_created ≡ false → file.done ≡ true → IsSame old new
   pub blamed : has_failed old.failures new.failures ≡ not file.done
 
 -- The message about a file that did not take all bytes.

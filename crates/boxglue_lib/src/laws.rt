@@ -8,5 +8,5 @@ ghost use Rattle.boxglue_lib.specs.Typesets.{IsUsed, OutFile};
 /// script of which nothing was run, do not create the file.
 pub fn a_file_without_bytes_is_not_created()
     ensures { (file : OutFile) → IsUsed file → file.done ≡ true → IsSome file.written
-        → IfSome (written_to_file file.created file.written) (λ bytes. bytes ≡ []) → file.created ≡ false }
+        → IfSome (written_to_file file.is_created file.written) (λ bytes. bytes ≡ []) → file.is_created ≡ false }
 {}

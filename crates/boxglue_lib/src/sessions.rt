@@ -41,11 +41,11 @@ pub fn session_file<'a, H: FileHost, R: Read, W: Write>(
     reader: &mut R,
     writer: &mut W,
 ) -> TypesetEnd<'a, H>
-    ensures session_ended { let file : OutFile = record { created = result.created; done = result.written; written = H.written result.host } in
+    ensures session_ended { let file : OutFile = record { is_created = result.is_created; done = result.written; written = H.written result.host } in
         EndsSession written_bytes (R.remaining reader.old) files.now file result.end (W.contents writer.old) (W.contents writer.new) }
-    ensures placed { H.created result.host ≡ created_after result.created out.now (H.created host) }
-    ensures untouched { result.created ≡ false → H.written result.host ≡ H.written host }
-    ensures unchanged { result.created ≡ false → result.written ≡ true → result.host ≡ host }
+    ensures placed { H.created result.host ≡ created_after result.is_created out.now (H.created host) }
+    ensures untouched { result.is_created ≡ false → H.written result.host ≡ H.written host }
+    ensures unchanged { result.is_created ≡ false → result.written ≡ true → result.host ≡ host }
     ensures blamed { has_failed (H.failures host) (H.failures result.host) ≡ not result.written }
 {
     let device = FileDevice::new(host, out);

@@ -18,7 +18,7 @@ use std::io::Write;
 #[derive(Debug, Drop)]
 pub struct TypesetEnd<'a, H> {
     pub end: Result<bool, TaskFault<'a>>,
-    pub created: bool,
+    pub is_created: bool,
     pub written: bool,
     pub host: H,
 }
@@ -33,14 +33,14 @@ pub fn typeset_file<'a, H: FileHost, W: Write>(
     inputs: &Inputs,
     writer: &mut W,
 ) -> TypesetEnd<'a, H>
-    ensures task_ended { let file : OutFile = record { created = result.created; done = result.written; written = H.written result.host } in
+    ensures task_ended { let file : OutFile = record { is_created = result.is_created; done = result.written; written = H.written result.host } in
         EndsTask (script_rules written_bytes inputs.now.bytes.items inputs.now.files.items (result.host ≡ host) file)
         result.end (W.contents writer.old) (W.contents writer.new) }
-    ensures left { let file : OutFile = record { created = result.created; done = result.written; written = H.written result.host } in
+    ensures left { let file : OutFile = record { is_created = result.is_created; done = result.written; written = H.written result.host } in
         result.end ≡ Err TaskFault.OutOfMemory → IsLeftToFile written_bytes inputs.now.bytes.items inputs.now.files.items file }
-    ensures placed { H.created result.host ≡ created_after result.created out.now (H.created host) }
-    ensures untouched { result.created ≡ false → H.written result.host ≡ H.written host }
-    ensures unchanged { result.created ≡ false → result.written ≡ true → result.host ≡ host }
+    ensures placed { H.created result.host ≡ created_after result.is_created out.now (H.created host) }
+    ensures untouched { result.is_created ≡ false → H.written result.host ≡ H.written host }
+    ensures unchanged { result.is_created ≡ false → result.written ≡ true → result.host ≡ host }
     ensures blamed { has_failed (H.failures host) (H.failures result.host) ≡ not result.written }
 {
     let device = FileDevice::new(host, out);
@@ -57,20 +57,20 @@ pub(crate) fn end_with<'a, H: FileHost>(
     device: FileDevice<'_, H>,
 ) -> TypesetEnd<'a, H>
     ensures end { result.end ≡ end.entry }
-    ensures created { result.created ≡ device.entry.is_open }
+    ensures created { result.is_created ≡ device.entry.is_created }
     ensures written { result.written ≡ (device.entry.failures == 0) }
     ensures host { result.host ≡ device.entry.host }
-    ensures used { IsUsed (record { created = result.created; done = result.written; written = H.written result.host }) }
+    ensures used { IsUsed (record { is_created = result.is_created; done = result.written; written = H.written result.host }) }
     ensures counted { H.failures result.host ≡ H.failures device.entry.start.seen + device.entry.failures }
-    ensures placed { H.created result.host ≡ created_after result.created device.entry.path.now (H.created device.entry.start.seen) }
-    ensures untouched { result.created ≡ false → H.written result.host ≡ H.written device.entry.start.seen }
-    ensures unchanged { result.created ≡ false → result.written ≡ true → result.host ≡ device.entry.start.seen }
+    ensures placed { H.created result.host ≡ created_after result.is_created device.entry.path.now (H.created device.entry.start.seen) }
+    ensures untouched { result.is_created ≡ false → H.written result.host ≡ H.written device.entry.start.seen }
+    ensures unchanged { result.is_created ≡ false → result.written ≡ true → result.host ≡ device.entry.start.seen }
 {
-    let created = device.is_open();
+    let is_created = device.is_created();
     let written = device.failures() == 0;
     TypesetEnd {
         end,
-        created,
+        is_created,
         written,
         host: device.into_host(),
     }

@@ -18,7 +18,7 @@ just_created (Some bytes) = Some []
 
 -- What a file device reports: the bytes that the created file took; before its creation, no byte.
 abbrev pub written_to_file : Bool → Option (List ℕ) → Option (List ℕ)
-written_to_file is_open written = if is_open then written else just_created written
+written_to_file is_created written = if is_created then written else just_created written
 
 -- The paths of the files that a host has created, the last one first, after one more file or none was created.
 abbrev pub created_after : (created : Bool) → (path : List ℕ) → (before : List (List ℕ)) → List (List ℕ)

@@ -18,13 +18,13 @@ pub struct FileDevice<'a, H: FileHost> {
     host: H,
     start: Snapshot<H>,
     path: &'a str,
-    is_open: bool,
+    is_created: bool,
     failures: u64,
-    ghost used: { is_open ≡ true → failures ≡ 0 → ForSome (H.written host) (λ bytes. bytes ≢ []) },
+    ghost used: { is_created ≡ true → failures ≡ 0 → ForSome (H.written host) (λ bytes. bytes ≢ []) },
     ghost counted: { H.failures host ≡ H.failures start.seen + failures },
-    ghost placed: { H.created host ≡ created_after is_open path.now (H.created start.seen) },
-    ghost closed: { is_open ≡ false → H.written host ≡ H.written start.seen },
-    ghost same: { is_open ≡ false → failures ≡ 0 → host ≡ start.seen } by { →_prop (→_prop (Coded-set H.code host start.seen)) },
+    ghost placed: { H.created host ≡ created_after is_created path.now (H.created start.seen) },
+    ghost closed: { is_created ≡ false → H.written host ≡ H.written start.seen },
+    ghost same: { is_created ≡ false → failures ≡ 0 → host ≡ start.seen } by { →_prop (→_prop (Coded-set H.code host start.seen)) },
 }
 
 impl<'a, H: FileHost> FileDevice<'a, H> {
@@ -33,23 +33,23 @@ impl<'a, H: FileHost> FileDevice<'a, H> {
         ensures host { result.host ≡ host }
         ensures path { result.path ≡ path.entry }
         ensures start { result.start.seen ≡ host }
-        ensures closed { result.is_open ≡ false }
+        ensures closed { result.is_created ≡ false }
         ensures fine { result.failures ≡ 0 }
     {
         FileDevice {
             start: Snapshot::of(&host),
             host,
             path,
-            is_open: false,
+            is_created: false,
             failures: 0,
         }
     }
 
     /// Whether the file was created.
-    pub fn is_open(&self) -> bool
-        ensures { result ≡ self.now.is_open }
+    pub fn is_created(&self) -> bool
+        ensures { result ≡ self.now.is_created }
     {
-        self.is_open
+        self.is_created
     }
 
     /// Returns the host, which has failed as often as the device, and has created no file since the device was made but that of the device, once. If
@@ -57,11 +57,11 @@ impl<'a, H: FileHost> FileDevice<'a, H> {
     /// failure it is as it was.
     pub fn into_host(self) -> H
         ensures host { result ≡ self.entry.host }
-        ensures used { self.entry.is_open ≡ true → self.entry.failures ≡ 0 → ForSome (H.written result) (λ bytes. bytes ≢ []) }
+        ensures used { self.entry.is_created ≡ true → self.entry.failures ≡ 0 → ForSome (H.written result) (λ bytes. bytes ≢ []) }
         ensures counted { H.failures result ≡ H.failures self.entry.start.seen + self.entry.failures }
-        ensures placed { H.created result ≡ created_after self.entry.is_open self.entry.path.now (H.created self.entry.start.seen) }
-        ensures closed { self.entry.is_open ≡ false → H.written result ≡ H.written self.entry.start.seen }
-        ensures same { self.entry.is_open ≡ false → self.entry.failures ≡ 0 → result ≡ self.entry.start.seen }
+        ensures placed { H.created result ≡ created_after self.entry.is_created self.entry.path.now (H.created self.entry.start.seen) }
+        ensures closed { self.entry.is_created ≡ false → H.written result ≡ H.written self.entry.start.seen }
+        ensures same { self.entry.is_created ≡ false → self.entry.failures ≡ 0 → result ≡ self.entry.start.seen }
     {
         self.host
     }
@@ -74,21 +74,21 @@ impl From<OutputFault> for DeviceFault {
 }
 
 /// Creates the file of a host, unless it was created before.
-fn open<H: FileHost>(host: &mut H, path: &str, is_open: &mut bool) -> Result<(), DeviceFault>
-    ensures bytes_written { written_to_file is_open.new (H.written host.new) ≡ written_to_file is_open.old (H.written host.old) }
-    ensures open { OnOk result (is_open.new ≡ true) }
-    ensures kept_open { is_open.new ≡ false → is_open.old ≡ false }
-    ensures closed { is_open.new ≡ false → H.written host.new ≡ H.written host.old }
-    ensures placed { (before : List (List ℕ)) → H.created host.old ≡ created_after is_open.old path.now before
-        → H.created host.new ≡ created_after is_open.new path.now before }
+fn open<H: FileHost>(host: &mut H, path: &str, is_created: &mut bool) -> Result<(), DeviceFault>
+    ensures bytes_written { written_to_file is_created.new (H.written host.new) ≡ written_to_file is_created.old (H.written host.old) }
+    ensures open { OnOk result (is_created.new ≡ true) }
+    ensures kept_open { is_created.new ≡ false → is_created.old ≡ false }
+    ensures closed { is_created.new ≡ false → H.written host.new ≡ H.written host.old }
+    ensures placed { (before : List (List ℕ)) → H.created host.old ≡ created_after is_created.old path.now before
+        → H.created host.new ≡ created_after is_created.new path.now before }
     ensures no_failure { OnOk result (H.failures host.new ≡ H.failures host.old) }
     ensures counted { OnErr result (H.failures host.new ≡ H.failures host.old + 1) }
 {
-    if *is_open {
+    if *is_created {
         return Ok(());
     }
     host.create(path)?;
-    *is_open = true;
+    *is_created = true;
     Ok(())
 }
 
@@ -96,24 +96,24 @@ fn open<H: FileHost>(host: &mut H, path: &str, is_open: &mut bool) -> Result<(),
 fn put<H: FileHost>(
     host: &mut H,
     path: &str,
-    is_open: &mut bool,
+    is_created: &mut bool,
     piece: &[u8],
 ) -> Result<usize, DeviceFault>
     requires piece_not_empty { 0 < length piece.now }
     ensures count_bounded { IfOk result (λ n. (1 ≤ n) × (n ≤ length piece.now)) }
-    ensures taken { IfOk result (λ n. written_to_file is_open.new (H.written host.new)
-        ≡ written_then (written_to_file is_open.old (H.written host.old)) (take n piece.now)) }
-    ensures none_taken { OnErr result (written_to_file is_open.new (H.written host.new) ≡ written_to_file is_open.old (H.written host.old)) }
-    ensures opened { OnOk result (is_open.new ≡ true) }
+    ensures taken { IfOk result (λ n. written_to_file is_created.new (H.written host.new)
+        ≡ written_then (written_to_file is_created.old (H.written host.old)) (take n piece.now)) }
+    ensures none_taken { OnErr result (written_to_file is_created.new (H.written host.new) ≡ written_to_file is_created.old (H.written host.old)) }
+    ensures opened { OnOk result (is_created.new ≡ true) }
     ensures used { OnOk result (ForSome (H.written host.new) (λ bytes. bytes ≢ [])) }
-    ensures closed { is_open.new ≡ false → H.written host.new ≡ H.written host.old }
-    ensures kept_open { is_open.new ≡ false → is_open.old ≡ false }
-    ensures placed { (before : List (List ℕ)) → H.created host.old ≡ created_after is_open.old path.now before
-        → H.created host.new ≡ created_after is_open.new path.now before }
+    ensures closed { is_created.new ≡ false → H.written host.new ≡ H.written host.old }
+    ensures kept_open { is_created.new ≡ false → is_created.old ≡ false }
+    ensures placed { (before : List (List ℕ)) → H.created host.old ≡ created_after is_created.old path.now before
+        → H.created host.new ≡ created_after is_created.new path.now before }
     ensures no_failure { OnOk result (H.failures host.new ≡ H.failures host.old) }
     ensures counted { OnErr result (H.failures host.new ≡ H.failures host.old + 1) }
 {
-    open(host, path, is_open)?;
+    open(host, path, is_created)?;
     let count = host.write(piece)?;
     Ok(count)
 }
@@ -123,7 +123,7 @@ impl<H: FileHost> Device for FileDevice<'_, H> {
     ghost use Rattle.dvi_device.specs.Pasts.{plain_past};
     ghost use Rattle.boxglue_words.specs.Hosts.{begun_for};
 
-    ghost bytes_written = { λ device. written_to_file device.is_open (H.written device.host) };
+    ghost bytes_written = { λ device. written_to_file device.is_created (H.written device.host) };
 
     ghost failed = { λ device. device.failures };
 
@@ -136,19 +136,19 @@ impl<H: FileHost> Device for FileDevice<'_, H> {
         requires piece_not_empty { 0 < length piece.now }
         requires countable { self.old.failures + 1 < 2 ^ 64 }
         ensures count_bounded { IfOk result (λ n. (1 ≤ n) × (n ≤ length piece.now)) }
-        ensures taken { IfOk result (λ n. written_to_file self.new.is_open (H.written self.new.host)
-            ≡ written_then (written_to_file self.old.is_open (H.written self.old.host)) (take n piece.now)) }
+        ensures taken { IfOk result (λ n. written_to_file self.new.is_created (H.written self.new.host)
+            ≡ written_then (written_to_file self.old.is_created (H.written self.old.host)) (take n piece.now)) }
         ensures no_failure { OnOk result (self.new.failures ≡ self.old.failures) }
-        ensures none_taken { OnErr result (written_to_file self.new.is_open (H.written self.new.host)
-            ≡ written_to_file self.old.is_open (H.written self.old.host)) }
+        ensures none_taken { OnErr result (written_to_file self.new.is_created (H.written self.new.host)
+            ≡ written_to_file self.old.is_created (H.written self.old.host)) }
         ensures counted { OnErr result (self.new.failures ≡ self.old.failures + 1) }
         ensures fine { OnOk result (H.failures self.new.host ≡ H.failures self.old.host) }
         ensures blamed { OnErr result (H.failures self.new.host ≡ H.failures self.old.host + 1) }
         ensures start { self.new.start ≡ self.old.start }
         ensures path { self.new.path ≡ self.old.path }
-        ensures closed { self.new.is_open ≡ false → H.written self.new.host ≡ H.written self.old.host }
+        ensures closed { self.new.is_created ≡ false → H.written self.new.host ≡ H.written self.old.host }
     {
-        match put(&mut self.host, self.path, &mut self.is_open, piece) {
+        match put(&mut self.host, self.path, &mut self.is_created, piece) {
             Ok(count) => Ok(count),
             Err(fault) => {
                 self.failures += 1;

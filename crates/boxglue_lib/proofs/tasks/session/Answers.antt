@@ -7,7 +7,7 @@ pub returns : goal.returns
 returns g c =
     let run = c.session_file-written.result in
     let does = c.session_file-written.ensures in
-    held c.args.fonts.now c.args.out.now _ _ (record { created = run.created; done = run.written; written = g.H.FileHost.written run.host }) c.deref.result.now
+    held c.args.fonts.now c.args.out.now _ _ (record { is_created = run.is_created; done = run.written; written = g.H.FileHost.written run.host }) c.deref.result.now
     run.end _ _ _ _ _ (rw c.deref.ensures.value c.in-Ok.ensures.ok) does.session_ended
     (record { written = refl; placed = does.placed; untouched = does.untouched; unchanged = does.unchanged; blamed = does.blamed }) c.tell_unwritten.ensures
     c.report_end-2.ensures.output c.report_end-2.ensures.errors c.report_end-2.ensures.status

@@ -7,7 +7,7 @@ pub returns : goal.returns
 returns g c =
     let run = c.typeset_file-written.result in
     let does = c.typeset_file-written.ensures in
-    typeset_ended c.args.fonts.now c.args.out.now _ _ (record { created = run.created; done = run.written; written = g.H.FileHost.written run.host }) c.in-Ok.inputs.bytes.items
+    typeset_ended c.args.fonts.now c.args.out.now _ _ (record { is_created = run.is_created; done = run.written; written = g.H.FileHost.written run.host }) c.in-Ok.inputs.bytes.items
     c.in-Ok.inputs.files.items run.end _ _ _ _ _ c.in-Ok.ensures.script c.in-Ok.ensures.files does.task_ended does.left
     (record { written = refl; placed = does.placed; untouched = does.untouched; unchanged = does.unchanged; blamed = does.blamed }) c.tell_unwritten.ensures
     c.report_end-2.ensures.output c.report_end-2.ensures.errors c.report_end-2.ensures.status
