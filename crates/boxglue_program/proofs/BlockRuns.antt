@@ -13,10 +13,10 @@ use Rattle.boxglue_program.specs.Texts.{answer_line, answer_lines}
 use Rattle.boxglue_program.proofs.OutcomeLaws.{outcome_joined}
 
 -- Lines were run on a job and answered after what was there.
-abbrev pub WereRun : (old new : JobView) → (start now : List ℕ) → (kept : Bool) → Outcome → List Line → Type 0
-WereRun old new start now kept outcome lines =
+abbrev pub WereRun : (old new : JobView) → (start now : List ℕ) → (are_answers_kept : Bool) → Outcome → List Line → Type 0
+WereRun old new start now are_answers_kept outcome lines =
     (replies : List Reply) × RunsTo old (commands_of lines) replies new × (length replies ≡ length lines)
-    × (kept ≡ true → now ≡ start ++ answer_lines (line_numbers lines) replies) × (outcome ≡ replies_outcome replies)
+    × (are_answers_kept ≡ true → now ≡ start ++ answer_lines (line_numbers lines) replies) × (outcome ≡ replies_outcome replies)
 
 answers_joined : (lines more : List Line) (replies others : List Reply) → length replies ≡ length lines
     → answer_lines (line_numbers (lines ++ more)) (replies ++ others) ≡ answer_lines (line_numbers lines) replies ++ answer_lines (line_numbers more) others
@@ -28,10 +28,10 @@ answers_joined (line ∷ lines) more (reply ∷ replies) others h =
     ∙ sym (append_assoc (answer_line line.number reply) (answer_lines (line_numbers lines) replies) (answer_lines (line_numbers more) others))
 
 -- Lines that were run after others.
-pub run_further : (old middle new : JobView) (start now later : List ℕ) (kept next all : Bool) (outcome after whole : Outcome) (lines more : List Line)
-    → WereRun old middle start now kept outcome lines → WereRun middle new now later next after more
-    → whole ≡ worse_outcome outcome after → (all ≡ true → (kept ≡ true) × (next ≡ true)) → WereRun old new start later all whole (lines ++ more)
-run_further old middle new start now later kept next all outcome after whole lines more first second is both = (
+pub run_further : (old middle new : JobView) (start now later : List ℕ) (are_answers_kept next all : Bool) (outcome after whole : Outcome) (lines more : List Line)
+    → WereRun old middle start now are_answers_kept outcome lines → WereRun middle new now later next after more
+    → whole ≡ worse_outcome outcome after → (all ≡ true → (are_answers_kept ≡ true) × (next ≡ true)) → WereRun old new start later all whole (lines ++ more)
+run_further old middle new start now later are_answers_kept next all outcome after whole lines more first second is both = (
   first.0 ++ second.0,
   subst (λ (xs : List Command). RunsTo old xs (first.0 ++ second.0) new) (sym (map-append (λ (line : Line). line.command) lines more))
       (runs_joined old middle new (commands_of lines) (commands_of more) first.0 second.0 first.1 second.1),

@@ -113,24 +113,24 @@ piece_comes read count most left bytes text old new is said same long fits =
 
 -- One reading brought a piece that was taken.
 pub piece_exchanged : (old was new : SessionView) (piece : List ℕ) (before after : Option (List ℕ)) → was ≡ old
-    → (whole answers : List ℕ) × (was.kept ++ piece ≡ whole ++ new.kept) × IsWhole whole × AnswersLines was.dialog
+    → (whole answers : List ℕ) × (was.partial_line ++ piece ≡ whole ++ new.partial_line) × IsWhole whole × AnswersLines was.dialog
     (lines whole) answers new.dialog × IsSent was.reads new.reads before after answers
-    → (Contains new.kept 10 → ⊥) → new.left + length piece ≡ was.left → Exchanges old piece new before after
+    → (Contains new.partial_line 10 → ⊥) → new.left + length piece ≡ was.left → Exchanges old piece new before after
 piece_exchanged old was new piece before after same (whole, answers, split, ends, ran, sent) rest left =
     subst (λ (s : SessionView). Exchanges s piece new before after) same
     (record { whole = whole; split = split; ends = ends; rest = rest; answers = answers; ran = ran; sent = sent; left = left })
 
 -- One reading brought nothing.
-pub nothing_exchanged : (old was : SessionView) (before : Option (List ℕ)) → was ≡ old → (Contains was.kept 10 → ⊥)
+pub nothing_exchanged : (old was : SessionView) (before : Option (List ℕ)) → was ≡ old → (Contains was.partial_line 10 → ⊥)
     → Exchanges old [] was before before
 nothing_exchanged old was before same rest =
     piece_exchanged old was was [] before before same
-    ([], [], append-nil was.kept, inl refl, none_answered was.dialog, sent_none was.reads before) rest (omega arith)
+    ([], [], append-nil was.partial_line, inl refl, none_answered was.dialog, sent_none was.reads before) rest (omega arith)
 
 -- Memory was refused after a piece was read.
 pub space_lacked : (old was new : SessionView) (piece : List ℕ) (before after : Option (List ℕ)) → was ≡ old
-    → (answers : List ℕ) × StopsAfterLines (was.kept ++ piece) was.dialog answers new.dialog × IsSent was.reads new.reads before after answers
-    → new.kept ≡ [] → new.left + length piece ≡ was.left → LacksMemory old piece new before after
+    → (answers : List ℕ) × StopsAfterLines (was.partial_line ++ piece) was.dialog answers new.dialog × IsSent was.reads new.reads before after answers
+    → new.partial_line ≡ [] → new.left + length piece ≡ was.left → LacksMemory old piece new before after
 space_lacked old was new piece before after same (answers, (stops, whole), sent) none left =
     subst (λ (s : SessionView). LacksMemory s piece new before after) same
-    (record { answers = answers; stops = stops; whole = whole; sent = sent; kept = none; left = left })
+    (record { answers = answers; stops = stops; whole = whole; sent = sent; partial_line = none; left = left })

@@ -337,11 +337,11 @@ pub length_more : (front more : List Line) (line : Line) (replies : List Reply) 
 length_more front more line replies reply is h = length-append replies (reply ∷ []) ∙ (ap (λ (n : ℕ). n + 1) h ∙ (sym (length-append front (line ∷ [])) ∙ ap length (sym is)))
 
 -- The answers with one more, where the memory for it was there.
-pub answers_one_more : (start now new : List ℕ) (front more : List Line) (line : Line) (replies : List Reply) (reply : Reply) (kept fine : Bool) → more ≡ front ++ line ∷ []
-    → length replies ≡ length front → (kept ≡ true → now ≡ start ++ answer_lines (line_numbers front) replies)
-    → (fine ≡ true → (kept ≡ true) × (new ≡ now ++ answer_line line.number reply))
+pub answers_one_more : (start now new : List ℕ) (front more : List Line) (line : Line) (replies : List Reply) (reply : Reply) (are_answers_kept fine : Bool) → more ≡ front ++ line ∷ []
+    → length replies ≡ length front → (are_answers_kept ≡ true → now ≡ start ++ answer_lines (line_numbers front) replies)
+    → (fine ≡ true → (are_answers_kept ≡ true) × (new ≡ now ++ answer_line line.number reply))
     → fine ≡ true → new ≡ start ++ answer_lines (line_numbers more) (replies ++ reply ∷ [])
-answers_one_more start now new front more line replies reply kept fine is h had added given =
+answers_one_more start now new front more line replies reply are_answers_kept fine is h had added given =
     let here = added given in
     here.1
     ∙ (ap (λ (text : List ℕ). text ++ answer_line line.number reply) (had here.0)

@@ -48,7 +48,7 @@ kept_sent false false old middle new text kept sent = keeps_both old middle new 
 pub session_finished : (old was : SessionView) (outcome : Result Bool SessionFault) (accepted reads written : Bool) (k failed : ℕ)
     (bytes_written reported before after : Option (List ℕ)) (answers : List ℕ) (middle : DialogView) (end : Result Summary Refusal)
     → was ≡ old → outcome ≡ Ok accepted → k ≡ failed → bytes_written ≡ reported → written ≡ reads
-    → AnswersLines was.dialog (lines was.kept) answers middle → EndsRun middle.job end failed reported
+    → AnswersLines was.dialog (lines was.partial_line) answers middle → EndsRun middle.job end failed reported
     → IsSent was.reads reads before after (answers ++ end_line end) → accepted ≡ (middle.accepted && is_ok end)
     → IfOk outcome (λ accepted. (answer : List ℕ) × EndsSession old k bytes_written answer accepted × IsSent old.reads written before after answer)
 session_finished old was outcome accepted reads written k failed bytes_written reported before after answers middle end same is count bytes as_reported
@@ -63,8 +63,8 @@ session_finished old was outcome accepted reads written k failed bytes_written r
 pub session_unfinished : (old was : SessionView) (ended : DialogView) (outcome : Result Bool SessionFault) (reads written : Bool) (k : ℕ)
     (bytes_written before after : Option (List ℕ)) (answers : List ℕ)
     → was ≡ old → outcome ≡ Err OutOfMemory → k ≡ ended.job.failed → bytes_written ≡ ended.job.bytes_written → written ≡ reads
-    → StopsIn was.kept was.dialog answers ended → IsSent was.reads reads before after answers
-    → IfErr outcome (λ fault. (fault ≡ OutOfMemory) × (answers : List ℕ) × (last : DialogView) × StopsIn old.kept old.dialog answers last
+    → StopsIn was.partial_line was.dialog answers ended → IsSent was.reads reads before after answers
+    → IfErr outcome (λ fault. (fault ≡ OutOfMemory) × (answers : List ℕ) × (last : DialogView) × StopsIn old.partial_line old.dialog answers last
     × IsSent old.reads written before after answers × (k ≡ last.job.failed) × (bytes_written ≡ last.job.bytes_written))
 session_unfinished old was ended outcome reads written k bytes_written before after answers same is count bytes as_reported stops sent =
     rw (is, as_reported, ← same) (refl, answers, ended, stops, sent, count, bytes)
@@ -76,7 +76,7 @@ pub record InSession (start now : SessionView) (input left before after : Option
   pub read : Consumes input left text
   pub done : DoneSoFar start now text answers before after
 
-pub session_begins : (start : SessionView) (input before : Option (List ℕ)) → start.kept ≡ [] → InSession start start input input before before
+pub session_begins : (start : SessionView) (input before : Option (List ℕ)) → start.partial_line ≡ [] → InSession start start input input before before
 session_begins start input before none = record { text = []; answers = []; read = Consumes-nil input; done = done_at_start start before none }
 
 pub session_goes_on : (start now new : SessionView) (input left rest before middle after : Option (List ℕ))
@@ -134,7 +134,7 @@ pub run_unfinished : (files : List NamedBytes) (n k limit : ℕ) (start now last
     (input left rest before middle between after bytes_written : Option (List ℕ)) (outcome : Result Bool SessionFault) (written : Bool)
     → IsNewSession files n start → start.left ≡ limit → InSession start now input left before middle
     → (last ≡ now) × Consumes left rest [] × IsAtEnd rest × Keeps middle between
-    → IfErr outcome (λ fault. (fault ≡ OutOfMemory) × (answers : List ℕ) × (ended : DialogView) × StopsIn last.kept last.dialog answers ended
+    → IfErr outcome (λ fault. (fault ≡ OutOfMemory) × (answers : List ℕ) × (ended : DialogView) × StopsIn last.partial_line last.dialog answers ended
     × IsSent last.reads written between after answers × (k ≡ ended.job.failed) × (bytes_written ≡ ended.job.bytes_written))
     → outcome ≡ Err OutOfMemory → (text answer : List ℕ) × Consumes input rest text × (length text ≤ limit)
     × LacksSessionMemory written_bytes (IsAtEnd rest) text files n k bytes_written answer × IsSent true written before after answer
@@ -142,7 +142,7 @@ run_unfinished files n k limit start now last input left rest before middle betw
     at_end lacks wants = absurd (cc)
 run_unfinished files n k limit start now last input left rest before middle between after bytes_written (Err fault) written new limited so_far
     (same, none, end, kept) (is, others, ended, stops, sent, count, bytes) wants =
-    let stops_now : StopsIn now.kept now.dialog others ended = subst (λ (s : SessionView). StopsIn s.kept s.dialog others ended) same stops in
+    let stops_now : StopsIn now.partial_line now.dialog others ended = subst (λ (s : SessionView). StopsIn s.partial_line s.dialog others ended) same stops in
     let sent_now : IsSent now.reads written between after others =
     subst (λ (s : SessionView). IsSent s.reads written between after others) same sent in
     rw (count, bytes) (
@@ -151,7 +151,7 @@ run_unfinished files n k limit start now last input left rest before middle betw
       all_read start now input left rest before middle so_far none,
       omega (arith, so_far.done.left, limited),
       inr (
-        session_stopped files n start now so_far.text so_far.text now.kept so_far.answers others before middle ended new so_far.done
+        session_stopped files n start now so_far.text so_far.text now.partial_line so_far.answers others before middle ended new so_far.done
             so_far.done.split stops_now,
         inr end,
       ),
@@ -162,7 +162,7 @@ run_unfinished files n k limit start now last input left rest before middle betw
 -- Memory is the only thing that finishing a session may lack.
 pub finished_or_refused : (last : SessionView) (k : ℕ) (between after bytes_written : Option (List ℕ)) (outcome : Result Bool SessionFault)
     (written : Bool)
-    → IfErr outcome (λ fault. (fault ≡ OutOfMemory) × (answers : List ℕ) × (ended : DialogView) × StopsIn last.kept last.dialog answers ended
+    → IfErr outcome (λ fault. (fault ≡ OutOfMemory) × (answers : List ℕ) × (ended : DialogView) × StopsIn last.partial_line last.dialog answers ended
     × IsSent last.reads written between after answers × (k ≡ ended.job.failed) × (bytes_written ≡ ended.job.bytes_written))
     → outcome ≡ Err Unreadable → ⊥
 finished_or_refused last k between after bytes_written (Ok accepted) written lacks is = cc
@@ -198,9 +198,9 @@ pub run_lacks_space : (files : List NamedBytes) (n k limit : ℕ) (start now las
 run_lacks_space files n k limit start now last input left rest before middle after bytes_written outcome fault written new limited so_far space is
     as_reported count bytes wants =
     let (piece, consumed, lacks) = space (same_fault (sym is ∙ wants)) in
-    let split : so_far.text ++ piece ≡ so_far.done.whole ++ (now.kept ++ piece) =
-    ap (λ (l : List ℕ). l ++ piece) so_far.done.split ∙ append_assoc so_far.done.whole now.kept piece in
-    let stopped = session_stopped_whole files n start now so_far.text (so_far.text ++ piece) (now.kept ++ piece) so_far.answers lacks.answers before
+    let split : so_far.text ++ piece ≡ so_far.done.whole ++ (now.partial_line ++ piece) =
+    ap (λ (l : List ℕ). l ++ piece) so_far.done.split ∙ append_assoc so_far.done.whole now.partial_line piece in
+    let stopped = session_stopped_whole files n start now so_far.text (so_far.text ++ piece) (now.partial_line ++ piece) so_far.answers lacks.answers before
     middle last.dialog new so_far.done split lacks.stops lacks.whole in
     rw (as_reported, count, bytes) (
       so_far.text ++ piece,

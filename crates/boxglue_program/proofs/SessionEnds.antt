@@ -21,9 +21,9 @@ use Rattle.boxglue_program.proofs.DialogLaws.{both_whole, ends_on}
 -- What a session has done with what it has read so far.
 pub record DoneSoFar (start now : SessionView) (text answers : List ℕ) (before after : Option (List ℕ)) : Type 0 where
   pub whole : List ℕ
-  pub split : text ≡ whole ++ now.kept
+  pub split : text ≡ whole ++ now.partial_line
   pub ends : IsWhole whole
-  pub rest : Contains now.kept 10 → ⊥
+  pub rest : Contains now.partial_line 10 → ⊥
   pub ran : AnswersLines start.dialog (lines whole) answers now.dialog
   pub sent : IsSent start.reads now.reads before after answers
   pub left : now.left + length text ≡ start.left
@@ -31,12 +31,12 @@ pub record DoneSoFar (start now : SessionView) (text answers : List ℕ) (before
 pub no_feed : (kept : List ℕ) → kept ≡ [] → Contains kept 10 → ⊥
 no_feed kept none (k, inside, is) = let size : length kept ≡ 0 = ap length none in omega (arith, size, inside)
 
-pub done_at_start : (start : SessionView) (before : Option (List ℕ)) → start.kept ≡ [] → DoneSoFar start start [] [] before before
+pub done_at_start : (start : SessionView) (before : Option (List ℕ)) → start.partial_line ≡ [] → DoneSoFar start start [] [] before before
 done_at_start start before none = record {
   whole = [];
   split = sym none;
   ends = inl refl;
-  rest = no_feed start.kept none;
+  rest = no_feed start.partial_line none;
   ran = none_answered start.dialog;
   sent = sent_none start.reads before;
   left = omega arith;
@@ -50,9 +50,9 @@ done_more start now new text piece answers before middle after done exchanged = 
   whole = done.whole ++ exchanged.whole;
   split =
       ap (λ (l : List ℕ). l ++ piece) done.split
-      ∙ (append_assoc done.whole now.kept piece
+      ∙ (append_assoc done.whole now.partial_line piece
       ∙ (ap (λ (l : List ℕ). done.whole ++ l) exchanged.split
-      ∙ sym (append_assoc done.whole exchanged.whole new.kept)));
+      ∙ sym (append_assoc done.whole exchanged.whole new.partial_line)));
   ends = both_whole done.whole exchanged.whole done.ends exchanged.ends;
   rest = exchanged.rest;
   ran = same_answered start.dialog new.dialog (lines done.whole ++ lines exchanged.whole) (lines (done.whole ++ exchanged.whole))
@@ -66,11 +66,11 @@ done_more start now new text piece answers before middle after done exchanged = 
 -- All lines of the input were run.
 ended : (start now : SessionView) (middle : DialogView) (text answers others : List ℕ) (before after : Option (List ℕ))
     → DoneSoFar start now text answers before after
-    → AnswersLines now.dialog (lines now.kept) others middle → AnswersLines start.dialog (lines text) (answers ++ others) middle
+    → AnswersLines now.dialog (lines now.partial_line) others middle → AnswersLines start.dialog (lines text) (answers ++ others) middle
 ended start now middle text answers others before after done ran =
-    same_answered start.dialog middle (lines done.whole ++ lines now.kept) (lines text) (answers ++ others)
-    (ap lines done.split ∙ lines_joined done.whole now.kept done.ends)
-    (answered_both start.dialog now.dialog middle (lines done.whole) (lines now.kept) answers others done.ran ran)
+    same_answered start.dialog middle (lines done.whole ++ lines now.partial_line) (lines text) (answers ++ others)
+    (ap lines done.split ∙ lines_joined done.whole now.partial_line done.ends)
+    (answered_both start.dialog now.dialog middle (lines done.whole) (lines now.partial_line) answers others done.ran ran)
 
 pub session_ran : (files : List NamedBytes) (n k : ℕ) (start now : SessionView) (text answers answer : List ℕ) (before after : Option (List ℕ))
     (bytes_written : Option (List ℕ)) (accepted : Bool)
@@ -161,7 +161,7 @@ pub session_cut_off : (files : List NamedBytes) (n : ℕ) (start now : SessionVi
     → IsCutOff written_bytes text files n now.dialog.job.failed now.dialog.job.bytes_written answers
 unfolding stopped_after
 session_cut_off files n start now text answers before after new done =
-    (stopped_after files n start text done.whole now.kept answers now.dialog now.dialog.job new done.split (inl done.ends) done.ran refl, done.ends, done.rest)
+    (stopped_after files n start text done.whole now.partial_line answers now.dialog now.dialog.job new done.split (inl done.ends) done.ran refl, done.ends, done.rest)
 
 contains_no : (byte : ℕ) (bytes : List ℕ) → (byte ≡ 10 → ⊥) → (Contains bytes 10 → ⊥) → Contains (byte ∷ bytes) 10 → ⊥
 contains_no byte bytes other none (zero, inside, is) = other is

@@ -70,15 +70,15 @@ EndsRun job end k bytes_written =
 pub record SessionView : Type 0 where
   pub dialog : DialogView
   pub reads : Bool
-  pub kept : List ℕ
+  pub partial_line : List ℕ
   pub left : ℕ
 
 -- One reading brought a piece. The lines that end in it were run, and their answers were sent. What follows the last line feed is kept.
 pub record Exchanges (old : SessionView) (piece : List ℕ) (new : SessionView) (before after : Option (List ℕ)) : Type 0 where
   pub whole : List ℕ
-  pub split : old.kept ++ piece ≡ whole ++ new.kept
+  pub split : old.partial_line ++ piece ≡ whole ++ new.partial_line
   pub ends : IsWhole whole
-  pub rest : Contains new.kept 10 → ⊥
+  pub rest : Contains new.partial_line 10 → ⊥
   pub answers : List ℕ
   pub ran : AnswersLines old.dialog (lines whole) answers new.dialog
   pub sent : IsSent old.reads new.reads before after answers
@@ -95,10 +95,10 @@ pub record StopsIn (text : List ℕ) (old : DialogView) (answers : List ℕ) (ne
 -- Memory was refused after a piece was read. Only whole lines were run. What was not run is lost, with the bytes that were kept.
 pub record LacksMemory (old : SessionView) (piece : List ℕ) (new : SessionView) (before after : Option (List ℕ)) : Type 0 where
   pub answers : List ℕ
-  pub stops : StopsIn (old.kept ++ piece) old.dialog answers new.dialog
+  pub stops : StopsIn (old.partial_line ++ piece) old.dialog answers new.dialog
   pub whole : IsWhole stops.whole
   pub sent : IsSent old.reads new.reads before after answers
-  pub kept : new.kept ≡ []
+  pub partial_line : new.partial_line ≡ []
   pub left : new.left + length piece ≡ old.left
 
 -- A session that was begun with these font files on a device that had failed n times.
@@ -108,14 +108,14 @@ pub record IsNewSession (files : List NamedBytes) (n : ℕ) (new : SessionView) 
   pub lines : new.dialog.lines ≡ 0
   pub accepted : new.dialog.accepted ≡ true
   pub reads : new.reads ≡ true
-  pub kept : new.kept ≡ []
+  pub partial_line : new.partial_line ≡ []
 
 -- A session came to the end of its input: a last line without a line feed was run, and the job was finished. The device of the job failed k times and
 -- reports these bytes. This is the text of the last answers, and whether nothing was refused in the whole session.
 pub record EndsSession (old : SessionView) (k : ℕ) (bytes_written : Option (List ℕ)) (answer : List ℕ) (accepted : Bool) : Type 0 where
   pub answers : List ℕ
   pub middle : DialogView
-  pub ran : AnswersLines old.dialog (lines old.kept) answers middle
+  pub ran : AnswersLines old.dialog (lines old.partial_line) answers middle
   pub end : Result Summary Refusal
   pub run : EndsRun middle.job end k bytes_written
   pub answer_is : answer ≡ answers ++ end_line end

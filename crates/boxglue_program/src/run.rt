@@ -209,17 +209,21 @@ pub fn run_whole<D: Device>(
     let run = run_blocks(&mut job, lines, &mut answers);
     let end = job.finish();
     Ok(WholeRun {
-        answers: with_end(answers, run.kept, &end),
+        answers: with_end(answers, run.are_answers_kept, &end),
         outcome: run.outcome.worse(Outcome::of(&end)),
         device: job.into_device(),
     })
 }
 
 /// The answers with the last line, if all lines before it are there. None if memory is refused, or was refused before.
-fn with_end(answers: Vec<u8>, kept: bool, end: &Result<Summary, Refusal>) -> Option<Vec<u8>>
-    ensures { (front : List ℕ) → (kept ≡ true → answers.items ≡ front) → IfSome result (λ text. text.items ≡ front ++ end_line end.now) }
+fn with_end(
+    answers: Vec<u8>,
+    are_answers_kept: bool,
+    end: &Result<Summary, Refusal>,
+) -> Option<Vec<u8>>
+    ensures { (front : List ℕ) → (are_answers_kept ≡ true → answers.items ≡ front) → IfSome result (λ text. text.items ≡ front ++ end_line end.now) }
 {
-    if !kept {
+    if !are_answers_kept {
         return None;
     }
     let mut text = answers;
@@ -233,18 +237,18 @@ pub struct LinesRun {
     /// What was refused of them.
     pub outcome: Outcome,
     /// Whether the answers of all of them are there. If not, none is.
-    pub kept: bool,
+    pub are_answers_kept: bool,
 }
 
 impl LinesRun {
     /// How lines were run of which some were run so and the others after them so.
     fn then(self, next: LinesRun) -> LinesRun
         ensures outcome { result.outcome ≡ worse_outcome self.outcome next.outcome }
-        ensures kept { result.kept ≡ true → (self.kept ≡ true) × (next.kept ≡ true) }
+        ensures kept { result.are_answers_kept ≡ true → (self.are_answers_kept ≡ true) × (next.are_answers_kept ≡ true) }
     {
         LinesRun {
             outcome: self.outcome.worse(next.outcome),
-            kept: self.kept & next.kept,
+            are_answers_kept: self.are_answers_kept & next.are_answers_kept,
         }
     }
 }
@@ -252,14 +256,14 @@ impl LinesRun {
 /// Runs the lines of a script as `run_lines` does. The memory of each block is given back once its lines were run, so that their answers may take it.
 fn run_blocks<D: Device>(job: &mut Job<D>, lines: LineBlocks, answers: &mut Vec<u8>) -> LinesRun
     ensures ran { (replies : List Reply) × RunsTo job.old (commands_of (lines_of lines)) replies job.new
-        × (result.kept ≡ true → answers.new.items ≡ answers.old.items ++ answer_lines (line_numbers (lines_of lines)) replies)
+        × (result.are_answers_kept ≡ true → answers.new.items ≡ answers.old.items ++ answer_lines (line_numbers (lines_of lines)) replies)
         × (result.outcome ≡ replies_outcome replies) }
     ensures goes_on { GoesOn (writing_of job.old) (writing_of job.new) }
 {
     let LineBlocks { full, last } = lines;
     let mut run = LinesRun {
         outcome: Outcome::Accepted,
-        kept: true,
+        are_answers_kept: true,
     };
     for block in full {
         let part = run_lines(job, &block, answers);
@@ -276,25 +280,34 @@ fn run_blocks<D: Device>(job: &mut Job<D>, lines: LineBlocks, answers: &mut Vec<
 /// answered JobOver. What the device has reported stands, and only more bytes follow it.
 pub fn run_lines<D: Device>(job: &mut Job<D>, lines: &[Line], answers: &mut Vec<u8>) -> LinesRun
     ensures ran { (replies : List Reply) × RunsTo job.old (commands_of lines.now) replies job.new × (length replies ≡ length lines.now)
-        × (result.kept ≡ true → answers.new.items ≡ answers.old.items ++ answer_lines (line_numbers lines.now) replies)
-        × (result.kept ≡ false → answers.new.items ≡ answers.old.items) × (result.outcome ≡ replies_outcome replies) }
-    ensures space { vec_len answers.old + 512 * length lines.now ≤ vec_capacity answers.old → result.kept ≡ true }
+        × (result.are_answers_kept ≡ true → answers.new.items ≡ answers.old.items ++ answer_lines (line_numbers lines.now) replies)
+        × (result.are_answers_kept ≡ false → answers.new.items ≡ answers.old.items) × (result.outcome ≡ replies_outcome replies) }
+    ensures space { vec_len answers.old + 512 * length lines.now ≤ vec_capacity answers.old → result.are_answers_kept ≡ true }
     ensures idle { job.old.state.over ≡ true → job.new ≡ job.old }
     ensures goes_on { GoesOn (writing_of job.old) (writing_of job.new) }
 {
     let before = answers.len();
     let mut outcome = Outcome::Accepted;
-    let mut kept = true;
+    let mut are_answers_kept = true;
     let mut numbered = NumberedLine::new();
     for line in lines {
         let reply = job.step(&line.command);
         outcome = outcome.worse(Outcome::of(&reply));
-        kept = push_next_answer(kept, &mut numbered, line.number, &reply, answers);
+        are_answers_kept = push_next_answer(
+            are_answers_kept,
+            &mut numbered,
+            line.number,
+            &reply,
+            answers,
+        );
     }
-    if !kept {
+    if !are_answers_kept {
         answers.truncate(before);
     }
-    LinesRun { outcome, kept }
+    LinesRun {
+        outcome,
+        are_answers_kept,
+    }
 }
 
 /// Appends an answer if those before it are there. Returns whether it is there too.
@@ -304,7 +317,7 @@ pub fn run_lines<D: Device>(job: &mut Job<D>, lines: &[Line], answers: &mut Vec<
 #[inline(always)]
 #[tactic(auto, unfolding(crate::specs::Texts::answer_line, crate::specs::Texts::answer_text))]
 fn push_next_answer(
-    kept: bool,
+    are_answers_kept: bool,
     line: &mut NumberedLine,
     number: usize,
     reply: &Reply,
@@ -312,13 +325,13 @@ fn push_next_answer(
 ) -> bool
     requires { HoldsTens line.old }
     ensures holds { HoldsTens line.new }
-    ensures ok { result ≡ true → (kept ≡ true) × (answers.new.items ≡ answers.old.items ++ answer_line number reply.now) }
+    ensures ok { result ≡ true → (are_answers_kept ≡ true) × (answers.new.items ≡ answers.old.items ++ answer_line number reply.now) }
     ensures cut { result ≡ false → answers.new.items ≡ answers.old.items }
-    ensures space { kept ≡ true → vec_len answers.old + 512 ≤ vec_capacity answers.old → result ≡ true }
+    ensures space { are_answers_kept ≡ true → vec_len answers.old + 512 ≤ vec_capacity answers.old → result ≡ true }
     ensures grown { vec_capacity answers.old ≤ vec_capacity answers.new }
     ensures short { vec_len answers.new ≤ vec_len answers.old + 512 }
 {
-    if !kept {
+    if !are_answers_kept {
         return false;
     }
     if let Ok(Answer::Done) = reply {

@@ -59,7 +59,7 @@ pub struct Session<D: Device> {
     dialog: Dialog<D>,
     outbox: Outbox,
     buffer: Vec<u8>,
-    kept: Vec<u8>,
+    partial_line: Vec<u8>,
     left: usize,
 }
 
@@ -72,10 +72,10 @@ impl<D: Device> Model for Session<D> {
 
     ghost coded = { coded_session };
 
-    ghost view = { λ s. session_of s.dialog s.outbox.reads s.kept.items s.left };
+    ghost view = { λ s. session_of s.dialog s.outbox.reads s.partial_line.items s.left };
 
-    ghost invariant = { λ s. (s.outbox.waiting.items ≡ []) × (vec_len s.buffer ≡ 65536) × (Contains s.kept.items 10 → ⊥)
-        × (s.dialog.lines + length s.kept.items + s.left < 2 ^ 64) };
+    ghost invariant = { λ s. (s.outbox.waiting.items ≡ []) × (vec_len s.buffer ≡ 65536) × (Contains s.partial_line.items 10 → ⊥)
+        × (s.dialog.lines + length s.partial_line.items + s.left < 2 ^ 64) };
 }
 
 /// Reads once into a buffer, and returns how many bytes came, 0 at the end of the input, or None if the call was interrupted.
@@ -122,32 +122,32 @@ fn split_lines(piece: &[u8]) -> (&[u8], &[u8])
 fn take_piece<D: Device, W: Write>(
     dialog: &mut Dialog<D>,
     outbox: &mut Outbox,
-    kept: &mut Vec<u8>,
+    partial_line: &mut Vec<u8>,
     piece: &[u8],
     writer: &mut W,
 ) -> Result<(), AllocError>
     requires empty { outbox.old.waiting.items ≡ [] }
-    requires unended { Contains kept.old.items 10 → ⊥ }
-    requires countable { dialog.old.lines + length kept.old.items + length piece.now < 2 ^ 64 }
-    ensures ok { OnOk result ((whole answers : List ℕ) × (kept.old.items ++ piece.now ≡ whole ++ kept.new.items) × IsWhole whole
+    requires unended { Contains partial_line.old.items 10 → ⊥ }
+    requires countable { dialog.old.lines + length partial_line.old.items + length piece.now < 2 ^ 64 }
+    ensures ok { OnOk result ((whole answers : List ℕ) × (partial_line.old.items ++ piece.now ≡ whole ++ partial_line.new.items) × IsWhole whole
         × AnswersLines dialog.old (lines whole) answers dialog.new
         × IsSent outbox.old.reads outbox.new.reads (W.contents writer.old) (W.contents writer.new) answers) }
     ensures stopped { OnErr result ((answers : List ℕ)
-        × StopsAfterLines (kept.old.items ++ piece.now) dialog.old answers dialog.new
+        × StopsAfterLines (partial_line.old.items ++ piece.now) dialog.old answers dialog.new
         × IsSent outbox.old.reads outbox.new.reads (W.contents writer.old) (W.contents writer.new) answers) }
     ensures emptied { outbox.new.waiting.items ≡ [] }
-    ensures rest { Contains kept.new.items 10 → ⊥ }
-    ensures counted { dialog.new.lines + length kept.new.items ≤ dialog.old.lines + length kept.old.items + length piece.now }
+    ensures rest { Contains partial_line.new.items 10 → ⊥ }
+    ensures counted { dialog.new.lines + length partial_line.new.items ≤ dialog.old.lines + length partial_line.old.items + length piece.now }
 {
     let (whole, rest) = split_lines(piece);
     if whole.is_empty() {
-        return kept.extend_from_slice(rest);
+        return partial_line.extend_from_slice(rest);
     }
-    kept.extend_from_slice(whole)?;
-    let ran = outbox.answer(dialog, kept, writer);
-    kept.clear();
+    partial_line.extend_from_slice(whole)?;
+    let ran = outbox.answer(dialog, partial_line, writer);
+    partial_line.clear();
     ran?;
-    kept.extend_from_slice(rest)
+    partial_line.extend_from_slice(rest)
 }
 
 impl<D: Device> Session<D> {
@@ -187,7 +187,7 @@ impl<D: Device> Session<D> {
                 reads: true,
             },
             buffer,
-            kept: Vec::new(alloc),
+            partial_line: Vec::new(alloc),
             left: limit,
         })
     }
@@ -228,12 +228,12 @@ impl<D: Device> Session<D> {
         let ran = take_piece(
             &mut self.dialog,
             &mut self.outbox,
-            &mut self.kept,
+            &mut self.partial_line,
             piece,
             writer,
         );
         if ran.is_err() {
-            self.kept.clear();
+            self.partial_line.clear();
             return Err(SessionFault::OutOfMemory);
         }
         Ok(Reading::More)
@@ -245,18 +245,19 @@ impl<D: Device> Session<D> {
             × EndsSession self (D.failed result.device) (D.bytes_written result.device) answer accepted
             × IsSent self.reads result.written (W.contents writer.old) (W.contents writer.new) answer) }
         ensures memory { IfErr result.outcome (λ fault. (fault ≡ SessionFault.OutOfMemory) × (answers : List ℕ) × (last : DialogView)
-            × StopsIn self.kept self.dialog answers last × IsSent self.reads result.written (W.contents writer.old) (W.contents writer.new) answers
+            × StopsIn self.partial_line self.dialog answers last
+            × IsSent self.reads result.written (W.contents writer.old) (W.contents writer.new) answers
             × (D.failed result.device ≡ last.job.failed) × (D.bytes_written result.device ≡ last.job.bytes_written)) }
         ensures made { (D.past result.device).made ≡ self.dialog.job.began.made }
     {
         let Session {
             mut dialog,
             mut outbox,
-            kept,
+            partial_line,
             buffer: _buffer,
             left: _left,
         } = self;
-        match outbox.answer_last(&mut dialog, &kept, writer) {
+        match outbox.answer_last(&mut dialog, &partial_line, writer) {
             Ok(accepted) => close(Ok(accepted), dialog, &outbox),
             Err(_) => close(Err(SessionFault::OutOfMemory), dialog, &outbox),
         }
@@ -271,7 +272,7 @@ impl<D: Device> Session<D> {
         let Session {
             dialog,
             outbox,
-            kept: _kept,
+            partial_line: _partial_line,
             buffer: _buffer,
             left: _left,
         } = self;

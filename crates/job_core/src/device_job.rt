@@ -41,29 +41,35 @@ fn write_refusal(fault: WriteFault) -> Refusal
 /// Ships the box in a register: its page goes to the device, and then the register is void. After a refusal the register keeps its box. The writer
 /// decides why a page is refused, in the order of the machine's checks.
 fn ship_page<D: Device>(
-    kept: &mut JobState,
+    state: &mut JobState,
     writer: &mut DviWriter<D>,
     alloc: Global,
     register: Register,
 ) -> Reply
     requires running { writer.old.over ≡ false }
-    requires sound { IsSound (before_shipping kept.old) }
-    requires bounded { IsBoundedFile kept.old.fonts writer.old }
-    ensures keeps { KeepsTo (view_of kept.old writer.old) (commands.Ship register) result (view_of kept.new writer.new) }
-    ensures same { IfErr result (λ refusal. refusal ≢ Refusal.Device → view_of kept.new writer.new ≡ view_of kept.old writer.old) }
-    ensures sound { IsSound (before_shipping kept.new) }
-    ensures bounded { writer.new.over ≡ false → IsBoundedFile kept.new.fonts writer.new }
-    ensures part { result ≡ Err Refusal.Device → (m : Machine) → Represents (view_of kept.old writer.old) m
+    requires sound { IsSound (before_shipping state.old) }
+    requires bounded { IsBoundedFile state.old.fonts writer.old }
+    ensures keeps { KeepsTo (view_of state.old writer.old) (commands.Ship register) result (view_of state.new writer.new) }
+    ensures same { IfErr result (λ refusal. refusal ≢ Refusal.Device → view_of state.new writer.new ≡ view_of state.old writer.old) }
+    ensures sound { IsSound (before_shipping state.new) }
+    ensures bounded { writer.new.over ≡ false → IsBoundedFile state.new.fonts writer.new }
+    ensures part { result ≡ Err Refusal.Device → (m : Machine) → Represents (view_of state.old writer.old) m
         → IfSome writer.new.bytes_written
         (λ bytes. IsProperFrontOf bytes (unfinished_file m.state.fonts (m.pages ++ new_pages m.state (commands.Ship register)))) }
     ensures goes_on { GoesOn writer.old writer.new }
 {
-    let Some(box_node) = kept.box_in(register) else {
+    let Some(box_node) = state.box_in(register) else {
         return Err(Refusal::VoidBox);
     };
-    match writer.page(alloc, box_node, kept.offsets(), kept.counts(), kept.fonts()) {
+    match writer.page(
+        alloc,
+        box_node,
+        state.offsets(),
+        state.counts(),
+        state.fonts(),
+    ) {
         Ok(()) => {
-            kept.empty(register);
+            state.empty(register);
             Ok(Answer::Shipped(writer.pages()))
         }
         Err(fault) => Err(write_refusal(fault)),
@@ -76,7 +82,7 @@ fn ship_page<D: Device>(
 #[derive(Drop)]
 pub struct Job<D: Device> {
     alloc: Global,
-    kept: JobState,
+    state: JobState,
     writer: DviWriter<D>,
 }
 
@@ -91,9 +97,9 @@ impl<D: Device> Model for Job<D> {
 
     ghost coded = { coded_job_view };
 
-    ghost view = { λ job. view_of job.kept job.writer };
+    ghost view = { λ job. view_of job.state job.writer };
 
-    ghost invariant = { λ job. IsSound (before_shipping job.kept) × (job.writer.over ≡ false → IsBoundedFile job.kept.fonts job.writer) };
+    ghost invariant = { λ job. IsSound (before_shipping job.state) × (job.writer.over ≡ false → IsBoundedFile job.state.fonts job.writer) };
 }
 
 impl<D: Device> Job<D> {
@@ -122,12 +128,12 @@ impl<D: Device> Job<D> {
         ensures made { IfOk result (λ job. IsMadeOver (device_view D.bytes_written D.failed D.past device) (writing_of job)) }
         ensures device_returned { IfErr result (λ back. back ≡ device) }
     {
-        let Ok(kept) = JobState::new(alloc, files) else {
+        let Ok(state) = JobState::new(alloc, files) else {
             return Err(device);
         };
         Ok(Job {
             alloc,
-            kept,
+            state,
             writer: DviWriter::new(device),
         })
     }
@@ -149,10 +155,10 @@ impl<D: Device> Job<D> {
             return Err(Refusal::JobOver);
         }
         if let Command::Ship(register) = command {
-            return ship_page(&mut self.kept, &mut self.writer, self.alloc, *register);
+            return ship_page(&mut self.state, &mut self.writer, self.alloc, *register);
         }
         // A refused growth becomes the answer OutOfMemory, by `From` of `Refusal`.
-        self.kept.obey(command)?
+        self.state.obey(command)?
     }
 
     /// Runs the commands in order, and appends one reply for each. A refused command does not stop the run.
@@ -202,10 +208,10 @@ impl<D: Device> Job<D> {
         if self.writer.is_over() {
             return Err(Refusal::JobOver);
         }
-        if self.kept.is_open() {
+        if self.state.is_open() {
             return Err(Refusal::ListsOpen);
         }
-        let summary = match self.writer.finish(self.alloc, self.kept.fonts()) {
+        let summary = match self.writer.finish(self.alloc, self.state.fonts()) {
             Ok(summary) => summary,
             Err(fault) => return Err(write_refusal(fault)),
         };
@@ -216,7 +222,7 @@ impl<D: Device> Job<D> {
     pub fn box_in(&self, register: Register) -> Option<&BoxNode>
         ensures { option_copied result ≡ held_in self.now.state.registers register }
     {
-        self.kept.box_in(register)
+        self.state.box_in(register)
     }
 
     /// Lends the device.
@@ -232,7 +238,7 @@ impl<D: Device> Job<D> {
     {
         let Job {
             alloc: _alloc,
-            kept: _kept,
+            state: _state,
             writer,
         } = self;
         writer.into_device()

@@ -116,7 +116,7 @@ impl KeptJob {
         number_on(self.lines, &mut lines);
         let run = run_lines(&mut self.job, &lines, &mut self.answers);
         self.lines = number_after(self.lines, line_count(script));
-        kept_status(run.kept, outcome_status(run.outcome))
+        kept_status(run.are_answers_kept, outcome_status(run.outcome))
     }
 
     /// Runs the lines of a piece of a script, and writes the rows of their replies.

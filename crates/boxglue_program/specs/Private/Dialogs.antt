@@ -27,7 +27,7 @@ pub record Sends (old new : OutboxView) (before after : Option (List ℕ)) (text
 
 -- A session by its parts.
 abbrev pub session_of : DialogView → Bool → List ℕ → ℕ → SessionView
-session_of dialog reads kept left = record { dialog = dialog; reads = reads; kept = kept; left = left }
+session_of dialog reads partial_line left = record { dialog = dialog; reads = reads; partial_line = partial_line; left = left }
 
 -- A piece was cut after its last line feed.
 pub record IsCutAfterLines (piece whole rest : List ℕ) : Type 0 where
@@ -49,4 +49,4 @@ coded_dialog =
 abbrev pub coded_session : Coded SessionView
 coded_session =
     code_by (DialogView × ((Bool × List ℕ) × ℕ)) (coded× coded_dialog (coded× (coded× coded_bool (coded_list coded_ℕ)) coded_ℕ))
-    (λ s. (s.dialog, ((s.reads, s.kept), s.left))) (λ p. session_of p.0 p.1.0.0 p.1.0.1 p.1.1) (λ _. refl)
+    (λ s. (s.dialog, ((s.reads, s.partial_line), s.left))) (λ p. session_of p.0 p.1.0.0 p.1.0.1 p.1.1) (λ _. refl)

@@ -24,12 +24,12 @@ loop-block-preserved g c =
     let part = c.run_lines-part in
     let block = c.in-Some.block in
     let ran = part.ensures.ran in
-    let answered : WereRun l.job part.new.job l.answers.items part.new.answers.items part.result.kept part.result.outcome c.deref.result.now = (ran.0, ran.1, ran.2, ran.3, ran.5) in
-    let more = subst (λ (xs : List Line). WereRun l.job part.new.job l.answers.items part.new.answers.items part.result.kept part.result.outcome xs) c.deref.ensures.value answered in
-    let both = run_further c.args.job.now l.job part.new.job c.args.answers.now.items l.answers.items part.new.answers.items l.run.kept part.result.kept c.then-run.result.kept
+    let answered : WereRun l.job part.new.job l.answers.items part.new.answers.items part.result.are_answers_kept part.result.outcome c.deref.result.now = (ran.0, ran.1, ran.2, ran.3, ran.5) in
+    let more = subst (λ (xs : List Line). WereRun l.job part.new.job l.answers.items part.new.answers.items part.result.are_answers_kept part.result.outcome xs) c.deref.ensures.value answered in
+    let both = run_further c.args.job.now l.job part.new.job c.args.answers.now.items l.answers.items part.new.answers.items l.run.are_answers_kept part.result.are_answers_kept c.then-run.result.are_answers_kept
     l.run.outcome part.result.outcome c.then-run.result.outcome (lines_in l.yielded) block.items l.invariant.ran more c.then-run.ensures.outcome c.then-run.ensures.kept in
     record {
-      ran = subst (λ (xs : List Line). WereRun c.args.job.now part.new.job c.args.answers.now.items part.new.answers.items c.then-run.result.kept c.then-run.result.outcome xs)
+      ran = subst (λ (xs : List Line). WereRun c.args.job.now part.new.job c.args.answers.now.items part.new.answers.items c.then-run.result.are_answers_kept c.then-run.result.outcome xs)
           (sym (one_block_more l.yielded block)) both;
       goes_on = goes_further _ _ _ l.invariant.goes_on part.ensures.goes_on;
     }
@@ -44,10 +44,10 @@ returns-clause-ran g c =
     l.yielded l.block-iterator l.yielded_by c.next.result c.next.new.self c.in-None.is c.next.ensures.steps in
     let all : lines_in l.yielded ≡ lines_in full.items = ap lines_in (sym (map-id l.yielded) ∙ drained.0) in
     let ran = part.ensures.ran in
-    let answered : WereRun l.job part.new.job l.answers.items part.new.answers.items part.result.kept part.result.outcome c.deref-2.result.now = (ran.0, ran.1, ran.2, ran.3, ran.5) in
-    let more = subst (λ (xs : List Line). WereRun l.job part.new.job l.answers.items part.new.answers.items part.result.kept part.result.outcome xs) c.deref-2.ensures.value answered in
-    let before = subst (λ (xs : List Line). WereRun c.args.job.now l.job c.args.answers.now.items l.answers.items l.run.kept l.run.outcome xs) all l.invariant.ran in
-    let both = run_further c.args.job.now l.job part.new.job c.args.answers.now.items l.answers.items part.new.answers.items l.run.kept part.result.kept c.then.result.kept
+    let answered : WereRun l.job part.new.job l.answers.items part.new.answers.items part.result.are_answers_kept part.result.outcome c.deref-2.result.now = (ran.0, ran.1, ran.2, ran.3, ran.5) in
+    let more = subst (λ (xs : List Line). WereRun l.job part.new.job l.answers.items part.new.answers.items part.result.are_answers_kept part.result.outcome xs) c.deref-2.ensures.value answered in
+    let before = subst (λ (xs : List Line). WereRun c.args.job.now l.job c.args.answers.now.items l.answers.items l.run.are_answers_kept l.run.outcome xs) all l.invariant.ran in
+    let both = run_further c.args.job.now l.job part.new.job c.args.answers.now.items l.answers.items part.new.answers.items l.run.are_answers_kept part.result.are_answers_kept c.then.result.are_answers_kept
     l.run.outcome part.result.outcome c.then.result.outcome (lines_in full.items) last.items before more c.then.ensures.outcome c.then.ensures.kept in
     (both.0, both.1, both.3, both.4)
 

@@ -8,6 +8,6 @@ use Rattle.boxglue_program.proofs.run.run_blocks.Given as goal
 
 abbrev pub invariant-loop-block : goal.invariant-loop-block
 invariant-loop-block g l = record {
-  ran : WereRun l.initial.job l.job l.initial.answers.items l.answers.items l.run.kept l.run.outcome (lines_in l.yielded);
+  ran : WereRun l.initial.job l.job l.initial.answers.items l.answers.items l.run.are_answers_kept l.run.outcome (lines_in l.yielded);
   goes_on : GoesOn (writing_of l.initial.job) (writing_of l.job);
 }

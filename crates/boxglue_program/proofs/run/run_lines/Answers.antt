@@ -15,15 +15,15 @@ use Rattle.boxglue_program.proofs.run.run_lines.Goals as goal
 
 -- What is known of the lines that were run.
 abbrev RanSoFar : (old new : JobView) (start now : List ℕ) → Bool → Outcome → List Line → Type 0
-RanSoFar old new start now kept outcome xs =
+RanSoFar old new start now are_answers_kept outcome xs =
     (replies : List Reply) × RunsTo old (commands_of xs) replies new × (length replies ≡ length xs)
-    × (kept ≡ true → now ≡ start ++ answer_lines (line_numbers xs) replies) × (outcome ≡ replies_outcome replies)
+    × (are_answers_kept ≡ true → now ≡ start ++ answer_lines (line_numbers xs) replies) × (outcome ≡ replies_outcome replies)
 
-not_kept : (new text : List ℕ) (kept : Bool) → kept ≡ false → kept ≡ true → new ≡ text
-not_kept new text kept is given = absurd (cc)
+not_kept : (new text : List ℕ) (are_answers_kept : Bool) → are_answers_kept ≡ false → are_answers_kept ≡ true → new ≡ text
+not_kept new text are_answers_kept is given = absurd (cc)
 
-not_lost : (new text : List ℕ) (kept : Bool) → kept ≡ true → kept ≡ false → new ≡ text
-not_lost new text kept is given = absurd (cc)
+not_lost : (new text : List ℕ) (are_answers_kept : Bool) → are_answers_kept ≡ true → are_answers_kept ≡ false → new ≡ text
+not_lost new text are_answers_kept is given = absurd (cc)
 
 pub loop-line-preserved : goal.loop-line-preserved
 loop-line-preserved g c =
@@ -32,7 +32,7 @@ loop-line-preserved g c =
     let line = c.line-item.result in
     let reply = c.step-reply.result in
     let before = c.loop-line.invariant.ran in
-    let push = c.push_next_answer-kept in
+    let push = c.push_next_answer-are_answers_kept in
     let start = c.args.answers.now.items in
     let now = c.loop-line.answers.items in
     let new = push.new.answers.items in
@@ -43,7 +43,7 @@ loop-line-preserved g c =
         before.0 ++ reply ∷ [],
         ran_one_more c.args.job.now c.loop-line.job c.step-reply.new.self (take i lines) (take (i + 1) lines) line before.0 reply taken before.1 c.step-reply.ensures.keeps,
         length_more (take i lines) (take (i + 1) lines) line before.0 reply taken before.2,
-        answers_one_more start now new (take i lines) (take (i + 1) lines) line before.0 reply c.loop-line.kept push.result taken before.2 before.3 push.ensures.ok,
+        answers_one_more start now new (take i lines) (take (i + 1) lines) line before.0 reply c.loop-line.are_answers_kept push.result taken before.2 before.3 push.ensures.ok,
         outcome_one_more c.loop-line.outcome c.of.result c.worse-outcome.result before.0 reply before.4 c.of.ensures c.worse-outcome.ensures,
       );
       begun = begun_further start now new (answer_line line.number reply) push.result c.loop-line.invariant.begun (λ given. (push.ensures.ok given).1) push.ensures.cut;
@@ -58,19 +58,19 @@ loop-line-preserved g c =
       goes_on = goes_further _ _ _ c.loop-line.invariant.goes_on c.step-reply.ensures.goes_on;
     }
 
-pub returns-then-not-kept-clause-ran : goal.returns-then-not-kept-clause-ran
-returns-then-not-kept-clause-ran g c =
+pub returns-then-not-are_answers_kept-clause-ran : goal.returns-then-not-are_answers_kept-clause-ran
+returns-then-not-are_answers_kept-clause-ran g c =
     let lines = c.args.lines.now in
     let start = c.args.answers.now.items in
     let all : take c.loop-line.line-index lines ≡ lines = take_all c.loop-line.line-index lines c.loop-line-test.false in
-    let ran = subst (λ (xs : List Line). RanSoFar c.args.job.now c.loop-line.job start c.loop-line.answers.items c.loop-line.kept c.loop-line.outcome xs) all c.loop-line.invariant.ran in
+    let ran = subst (λ (xs : List Line). RanSoFar c.args.job.now c.loop-line.job start c.loop-line.answers.items c.loop-line.are_answers_kept c.loop-line.outcome xs) all c.loop-line.invariant.ran in
     let size : c.len-before.result ≡ length start = omega (arith, c.len-before.ensures, c.args.answers.now.ok.0) in
-    (ran.0, ran.1, ran.2, not_kept c.truncate.new.self.items _ c.loop-line.kept c.if-not-kept.true, λ is. cut_back start c.loop-line.answers.items c.truncate.new.self.items c.len-before.result size c.loop-line.invariant.begun c.truncate.ensures.items, ran.4)
+    (ran.0, ran.1, ran.2, not_kept c.truncate.new.self.items _ c.loop-line.are_answers_kept c.if-not-are_answers_kept.true, λ is. cut_back start c.loop-line.answers.items c.truncate.new.self.items c.len-before.result size c.loop-line.invariant.begun c.truncate.ensures.items, ran.4)
 
-pub returns-else-not-kept-clause-ran : goal.returns-else-not-kept-clause-ran
-returns-else-not-kept-clause-ran g c =
+pub returns-else-not-are_answers_kept-clause-ran : goal.returns-else-not-are_answers_kept-clause-ran
+returns-else-not-are_answers_kept-clause-ran g c =
     let lines = c.args.lines.now in
     let start = c.args.answers.now.items in
     let all : take c.loop-line.line-index lines ≡ lines = take_all c.loop-line.line-index lines c.loop-line-test.false in
-    let ran = subst (λ (xs : List Line). RanSoFar c.args.job.now c.loop-line.job start c.loop-line.answers.items c.loop-line.kept c.loop-line.outcome xs) all c.loop-line.invariant.ran in
-    (ran.0, ran.1, ran.2, ran.3, not_lost c.loop-line.answers.items start c.loop-line.kept c.if-not-kept.false, ran.4)
+    let ran = subst (λ (xs : List Line). RanSoFar c.args.job.now c.loop-line.job start c.loop-line.answers.items c.loop-line.are_answers_kept c.loop-line.outcome xs) all c.loop-line.invariant.ran in
+    (ran.0, ran.1, ran.2, ran.3, not_lost c.loop-line.answers.items start c.loop-line.are_answers_kept c.if-not-are_answers_kept.false, ran.4)

@@ -23,6 +23,6 @@ returns-clause-ran g c =
       all.1.0,
       all.1.1,
       c.with_end.ensures (answer_lines (line_numbers (lines_of c.args.lines)) ran.0)
-          (λ kept. ran.2 kept ∙ ap (λ (text : List ℕ). text ++ answer_lines (line_numbers (lines_of c.args.lines)) ran.0) c.new-answers.ensures.items),
+          (λ are_answers_kept. ran.2 are_answers_kept ∙ ap (λ (text : List ℕ). text ++ answer_lines (line_numbers (lines_of c.args.lines)) ran.0) c.new-answers.ensures.items),
       outcome_at_end c.run_blocks-run.result.outcome c.of.result c.worse.result ran.0 c.finish-end.result ran.3 c.of.ensures c.worse.ensures,
     )

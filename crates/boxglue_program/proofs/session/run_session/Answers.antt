@@ -14,7 +14,7 @@ returns-in-Err-clause-memory g c =
     (g.D.Device.bytes_written c.in-Err.device) (ap g.D.Device.failed same) (returned_silent g.D.Device.bytes_written c.args.device c.in-Err.device same c.requires.fresh)
 
 pub loop-init : goal.loop-init
-loop-init g c = session_begins c.in-Ok.session (g.R.Read.remaining c.args.reader.now) (g.W.Write.contents c.args.writer.now) c.in-Ok.ensures.new.kept
+loop-init g c = session_begins c.in-Ok.session (g.R.Read.remaining c.args.reader.now) (g.W.Write.contents c.args.writer.now) c.in-Ok.ensures.new.partial_line
 
 pub loop-preserved : goal.loop-preserved
 loop-preserved g c =

@@ -12,7 +12,7 @@ returns-in_default-clause-more g c =
     λ _. (
       [],
       none_consumed (g.R.Read.remaining c.args.reader.now) (g.R.Read.remaining c.read_once.new.reader) (c.in_ok-count.ensures.none (ap Ok c.in_default.is)),
-      nothing_exchanged c.args.self.now (session_of inside.dialog inside.outbox.reads inside.kept.items inside.left)
+      nothing_exchanged c.args.self.now (session_of inside.dialog inside.outbox.reads inside.partial_line.items inside.left)
           (g.W.Write.contents c.args.writer.now) c.self.view_is c.self.invariant.2,
     )
 
@@ -26,8 +26,8 @@ returns-clause-more g c =
     λ is. (
       take c.in-Some.count c.deref.result.now,
       came.consumed,
-      piece_exchanged c.args.self.now (session_of inside.dialog inside.outbox.reads inside.kept.items inside.left)
-          (session_of now.dialog now.outbox.reads now.kept.items (inside.left - c.in-Some.count)) (take c.in-Some.count c.deref.result.now)
+      piece_exchanged c.args.self.now (session_of inside.dialog inside.outbox.reads inside.partial_line.items inside.left)
+          (session_of now.dialog now.outbox.reads now.partial_line.items (inside.left - c.in-Some.count)) (take c.in-Some.count c.deref.result.now)
           (g.W.Write.contents c.args.writer.now) (g.W.Write.contents now.writer) c.self.view_is
           (on_ok c.take_piece-ran.result (sym c.is_err.ensures.value ∙ c.if-is_err.false) c.take_piece-ran.ensures.ok) c.take_piece-ran.ensures.rest came.left_is,
     )
@@ -42,7 +42,7 @@ returns-then-is_err-clause-memory g c =
     λ is. (
       take c.in-Some.count c.deref.result.now,
       came.consumed,
-      space_lacked c.args.self.now (session_of inside.dialog inside.outbox.reads inside.kept.items inside.left)
+      space_lacked c.args.self.now (session_of inside.dialog inside.outbox.reads inside.partial_line.items inside.left)
           (session_of now.dialog now.outbox.reads c.clear.new.self.items (inside.left - c.in-Some.count)) (take c.in-Some.count c.deref.result.now)
           (g.W.Write.contents c.args.writer.now) (g.W.Write.contents now.writer) c.self.view_is
           (on_err c.take_piece-ran.result (sym c.is_err.ensures.value ∙ c.if-is_err.true) c.take_piece-ran.ensures.stopped) c.clear.ensures.items came.left_is,

@@ -28,10 +28,10 @@ returns-then-is_open-clause-finished g c =
 pub returns-clause-finished : goal.returns-clause-finished
 returns-clause-finished g c =
     let running = sym c.is_over.ensures ∙ c.if-is_over.false in
-    let old = view_of c.self.inside.kept c.self.inside.writer in
+    let old = view_of c.self.inside.state c.self.inside.writer in
     rw (← c.self.view_is)
     (finished old _ _ (may_finish old.state running (sym c.is_open.ensures ∙ c.if-is_open.false))
-    (stopped c.self.inside.kept c.self.inside.writer c.finish.new.self c.finish.ensures.so_far c.in-Ok.ensures.over)
+    (stopped c.self.inside.state c.self.inside.writer c.finish.new.self c.finish.ensures.so_far c.in-Ok.ensures.over)
     (λ m holds. c.in-Ok.ensures.pages _ m.pages (has_written_by old m c.fonts.result.now holds running c.fonts.ensures)) c.in-Ok.ensures.no_failure
     (c.finish.ensures.goes_on.more, c.finish.ensures.goes_on.grows)
     (λ m holds.
@@ -44,7 +44,7 @@ returns-clause-finished g c =
 pub returns-clause-file : goal.returns-clause-file
 returns-clause-file g c =
     let running = sym c.is_over.ensures ∙ c.if-is_over.false in
-    let old = view_of c.self.inside.kept c.self.inside.writer in
+    let old = view_of c.self.inside.state c.self.inside.writer in
     rw (← c.self.view_is)
     (λ m holds.
     sent_by old m c.fonts.result.now c.finish.new.self.bytes_written holds c.fonts.ensures (c.in-Ok.ensures.whole _ m.pages (has_written_by old m c.fonts.result.now holds running c.fonts.ensures)))
@@ -52,14 +52,14 @@ returns-clause-file g c =
 pub returns-clause-count : goal.returns-clause-count
 returns-clause-count g c =
     let running = sym c.is_over.ensures ∙ c.if-is_over.false in
-    let old = view_of c.self.inside.kept c.self.inside.writer in
+    let old = view_of c.self.inside.state c.self.inside.writer in
     rw (← c.self.view_is)
     (λ m holds. count_by old m c.fonts.result.now _ holds c.fonts.ensures (c.in-Ok.ensures.size _ m.pages (has_written_by old m c.fonts.result.now holds running c.fonts.ensures)))
 
 pub returns-clause-size : goal.returns-clause-size
 returns-clause-size g c =
     let running = sym c.is_over.ensures ∙ c.if-is_over.false in
-    let old = view_of c.self.inside.kept c.self.inside.writer in
+    let old = view_of c.self.inside.state c.self.inside.writer in
     let fonts = c.fonts.result.now in
     rw (← c.self.view_is)
     (λ m holds.
@@ -69,7 +69,7 @@ returns-clause-size g c =
 pub returns-clause-dvi : goal.returns-clause-dvi
 returns-clause-dvi g c =
     let running = sym c.is_over.ensures ∙ c.if-is_over.false in
-    let old = view_of c.self.inside.kept c.self.inside.writer in
+    let old = view_of c.self.inside.state c.self.inside.writer in
     let fonts = c.fonts.result.now in
     rw (← c.self.view_is)
     (λ m metrics holds gives.
@@ -81,7 +81,7 @@ returns-clause-dvi g c =
 pub returns-clause-end : goal.returns-clause-end
 returns-clause-end g c =
     let running = sym c.is_over.ensures ∙ c.if-is_over.false in
-    let old = view_of c.self.inside.kept c.self.inside.writer in
+    let old = view_of c.self.inside.state c.self.inside.writer in
     let fonts = c.fonts.result.now in
     rw (← c.self.view_is)
     (λ m holds some.
@@ -91,26 +91,26 @@ returns-clause-end g c =
 
 pub returns-clause-small : goal.returns-clause-small
 returns-clause-small g c =
-    let kept = c.self.inside.kept in
-    small_file kept.files kept.fonts c.fonts.result.now c.self.inside.writer _ c.fonts.ensures c.self.invariant.0.fonts (c.self.invariant.1 (sym c.is_over.ensures ∙ c.if-is_over.false)) c.in-Ok.ensures.size
+    let state = c.self.inside.state in
+    small_file state.files state.fonts c.fonts.result.now c.self.inside.writer _ c.fonts.ensures c.self.invariant.0.fonts (c.self.invariant.1 (sym c.is_over.ensures ∙ c.if-is_over.false)) c.in-Ok.ensures.size
 
 pub returns-in-Err-clause-finished : goal.returns-in-Err-clause-finished
 returns-in-Err-clause-finished g c =
     let running = sym c.is_over.ensures ∙ c.if-is_over.false in
-    let kept = c.self.inside.kept in
+    let state = c.self.inside.state in
     let w = c.self.inside.writer in
     let now = c.finish.new.self in
-    let old = view_of kept w in
+    let old = view_of state w in
     let fonts = c.fonts.result.now in
     let may = may_finish old.state running (sym c.is_open.ensures ∙ c.if-is_open.false) in
     let some = some_where w c.in-Err.fault running c.in-Err.ensures.refused in
     rw (← c.self.view_is)
-    (subst (λ (x : Refusal). FinishesTo old (Err x) (view_of kept now)) (sym c.write_refusal.ensures)
-    (unfinished old (view_of kept now) w c.in-Err.fault running c.in-Err.ensures.refused
-    (λ other. subst (λ (v : Writing). FinishesTo old (Err OutOfMemory) (view_of kept v)) (sym (c.in-Err.ensures.same other)) (wanting old may running some))
+    (subst (λ (x : Refusal). FinishesTo old (Err x) (view_of state now)) (sym c.write_refusal.ensures)
+    (unfinished old (view_of state now) w c.in-Err.fault running c.in-Err.ensures.refused
+    (λ other. subst (λ (v : Writing). FinishesTo old (Err OutOfMemory) (view_of state v)) (sym (c.in-Err.ensures.same other)) (wanting old may running some))
     (λ is.
     let lost = c.in-Err.is ∙ ap (λ (f : WriteFault). Err f) is in
-    losing old (view_of kept now) may running some (stopped kept w now c.finish.ensures.so_far (c.finish.ensures.lost lost)) (c.finish.ensures.failed lost)
+    losing old (view_of state now) may running some (stopped state w now c.finish.ensures.so_far (c.finish.ensures.lost lost)) (c.finish.ensures.failed lost)
     (c.finish.ensures.goes_on.more, c.finish.ensures.goes_on.grows)
     (λ m holds. part_by old m fonts now.bytes_written holds running c.fonts.ensures some (c.finish.ensures.since lost))
     (λ m holds.
@@ -120,12 +120,12 @@ returns-in-Err-clause-finished g c =
 pub returns-in-Err-clause-same : goal.returns-in-Err-clause-same
 returns-in-Err-clause-same g c = λ other.
     rw (← c.self.view_is)
-    (ap (λ (w : Writing). view_of c.self.inside.kept w) (c.in-Err.ensures.same (is_other c.in-Err.fault (λ lost. other (c.write_refusal.ensures ∙ lost)))))
+    (ap (λ (w : Writing). view_of c.self.inside.state w) (c.in-Err.ensures.same (is_other c.in-Err.fault (λ lost. other (c.write_refusal.ensures ∙ lost)))))
 
 pub returns-in-Err-clause-part : goal.returns-in-Err-clause-part
 returns-in-Err-clause-part g c = λ replied.
     let running = sym c.is_over.ensures ∙ c.if-is_over.false in
-    let old = view_of c.self.inside.kept c.self.inside.writer in
+    let old = view_of c.self.inside.state c.self.inside.writer in
     let device : c.write_refusal.result ≡ Device = cc (replied) in
     let is = is_lost c.in-Err.fault (Err c.write_refusal.result) (ap (λ (x : Refusal). Err x) c.write_refusal.ensures) (ap (λ (x : Refusal). Err x) device) in
     let lost = c.in-Err.is ∙ ap (λ (f : WriteFault). Err f) is in

@@ -12,7 +12,7 @@ returns-then-is_over-clause-keeps g c = rw (← c.self.view_is) (over_replies _ 
 
 pub invariant_of-self-2 : goal.invariant_of-self-2
 invariant_of-self-2 g c =
-    let s = before_shipping c.self.inside.kept in
+    let s = before_shipping c.self.inside.state in
     let w = c.self.inside.writer in (
       subst IsSound (sym c.in_ok-obey.ensures.state)
           (sound_after s c.args.command.now c.in_ok-obey.field-0 c.in_ok-obey.ensures.reply c.in_ok-obey.ensures.numbers c.self.invariant.0),
@@ -23,14 +23,14 @@ pub returns : goal.returns
 returns g c =
     let other : IsShip c.args.command.now → ⊥ = search rules in
     let running = sym c.is_over.ensures ∙ c.if-is_over.false in
-    let kept = c.self.inside.kept in
+    let state = c.self.inside.state in
     let w = c.self.inside.writer in
     rw (← c.self.view_is)
     (record {
-      keeps = obeyed kept w c.args.command.now other running c.obey.new.self c.in_ok-obey.field-0 c.in_ok-obey.ensures.reply c.in_ok-obey.ensures.state;
-      same = stays_refused kept c.obey.new.self w c.args.command.now c.in_ok-obey.field-0 c.in_ok-obey.ensures.reply c.in_ok-obey.ensures.state;
+      keeps = obeyed state w c.args.command.now other running c.obey.new.self c.in_ok-obey.field-0 c.in_ok-obey.ensures.reply c.in_ok-obey.ensures.state;
+      same = stays_refused state c.obey.new.self w c.args.command.now c.in_ok-obey.field-0 c.in_ok-obey.ensures.reply c.in_ok-obey.ensures.state;
       idle = λ over. absurd (true_or_false over running);
       part = λ is.
-          absurd (never_device (view_of kept w).state c.args.command.now c.in_ok-obey.field-0 (seen_reply kept w c.args.command.now other running c.in_ok-obey.field-0 c.in_ok-obey.ensures.reply) is);
+          absurd (never_device (view_of state w).state c.args.command.now c.in_ok-obey.field-0 (seen_reply state w c.args.command.now other running c.in_ok-obey.field-0 c.in_ok-obey.ensures.reply) is);
       goes_on = goes_not w;
     })

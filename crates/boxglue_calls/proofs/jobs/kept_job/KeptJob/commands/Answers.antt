@@ -28,5 +28,5 @@ returns c =
     (inl (ran_piece old now run.new.job c.args.script.now c.in-Ok.lines.items c.deref.result.now ran.0 _ c.kept_status.result
     (c.deref.ensures.value ∙ (all ∙ (c.number_on.ensures ∙ ap (λ (lines : List Line). numbered_lines old.lines lines) c.deref_mut.ensures.value))) c.in-Ok.ensures.lines ran.1 run.ensures.idle run.ensures.goes_on ran.2
     refl (c.number_after-self-inside.ensures ∙ ap (λ (n : ℕ). number_after old.lines n) c.line_count.ensures) refl
-    (kept_answers old.answers now.answers (answer_lines (line_numbers c.deref.result.now) ran.0) run.result.kept c.outcome_status.result c.kept_status.result ran.3 ran.4 c.kept_status.ensures)
+    (kept_answers old.answers now.answers (answer_lines (line_numbers c.deref.result.now) ran.0) run.result.are_answers_kept c.outcome_status.result c.kept_status.result ran.3 ran.4 c.kept_status.ensures)
     (c.outcome_status.ensures ∙ (ap outcome_status ran.5 ∙ replies_status_is ran.0))))
