@@ -63,7 +63,7 @@ typeset_unsaid out fonts old new before after status has = record {
 session_unsaid : (text : List ℕ) (files : List NamedBytes) (n k : ℕ) (bytes_written : Option (List ℕ)) (answer : List ℕ) (accepted : Bool)
     → RanSession written_bytes text files n k bytes_written answer accepted → RanSession any_bytes text files n k bytes_written answer accepted
 session_unsaid text files n k bytes_written answer accepted ran = record {
-  said = ran.said;
+  contents = ran.contents;
   replies = ran.replies;
   end = ran.end;
   says = ran.says;
@@ -80,7 +80,7 @@ stopped_unsaid text files n k bytes_written answer stopped = record {
   rest = stopped.rest;
   split = stopped.split;
   ends = stopped.ends;
-  said = stopped.said;
+  contents = stopped.contents;
   replies = stopped.replies;
   says = stopped.says;
   machine = stopped.machine;

@@ -29,7 +29,7 @@ use Rattle.boxglue_program.proofs.SessionLaws.{answered_both, none_answered, sen
 -- A line that is passed over.
 pub nothing_answered : (job : JobView) (before : ℕ) (line : List ℕ) → IsPassedOver line → AnswersLines (dialog_of job before true) (line ∷ []) [] (dialog_of job (before + 1) true)
 nothing_answered job before line says = record {
-  said = Nothing ∷ [];
+  contents = Nothing ∷ [];
   replies = [];
   says = (says, tt);
   ran = no_run job;
@@ -48,7 +48,7 @@ pub command_answered : (old new : JobView) (before : ℕ) (line : List ℕ) (giv
 command_answered old new before line given run [] outcome accepted says number is ran each outcome_is fine goes = absurd (omega (arith, each, ap length is))
 command_answered old new before line given run (reply ∷ other ∷ more) outcome accepted says number is ran each outcome_is fine goes = absurd (omega (arith, each, ap length is))
 command_answered old new before line given run (reply ∷ []) outcome accepted says number is ran each outcome_is fine goes = record {
-  said = Command given.command ∷ [];
+  contents = Command given.command ∷ [];
   replies = reply ∷ [];
   says = (says, tt);
   ran = subst (λ (lines : List Line). RunsTo old (commands_of lines) (reply ∷ []) new) is ran;
@@ -63,7 +63,7 @@ command_answered old new before line given run (reply ∷ []) outcome accepted s
 pub bad_answered : (job : JobView) (before : ℕ) (line : List ℕ) (cause : Cause) → (is_passed_over line ≡ false) × IsCause cause line
     → AnswersLines (dialog_of job before true) (line ∷ []) (script_refusal_text (before + 1) cause) (dialog_of job (before + 1) false)
 bad_answered job before line cause says = record {
-  said = Bad cause ∷ [];
+  contents = Bad cause ∷ [];
   replies = [];
   says = (says, tt);
   ran = no_run job;
@@ -78,7 +78,7 @@ bad_answered job before line cause says = record {
 pub answered_after : (old new : JobView) (before next : ℕ) (all : List (List ℕ)) (text : List ℕ) (accepted fine : Bool) → AnswersLines (dialog_of old before true) all text (dialog_of new next fine)
     → AnswersLines (dialog_of old before accepted) all text (dialog_of new next (accepted && fine))
 answered_after old new before next all text accepted fine ran = record {
-  said = ran.said;
+  contents = ran.contents;
   replies = ran.replies;
   says = ran.says;
   ran = ran.ran;

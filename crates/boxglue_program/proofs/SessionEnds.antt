@@ -9,7 +9,7 @@ use Rattle.job_machine.specs.Machine.{first_machine}
 use Rattle.job_machine.specs.Runs.{Run}
 use Rattle.job_core.specs.Headline.{WasRunAndSent}
 use Rattle.job_core.specs.Jobs.{JobView, Represents}
-use Rattle.boxglue_script.specs.LineContents.{IsWhole, lines_said, has_no_bad}
+use Rattle.boxglue_script.specs.LineContents.{IsWhole, lines_of_contents, has_no_bad}
 use Rattle.boxglue_script.proofs.LineLemmas.{lines_joined}
 use Rattle.boxglue_program.specs.Reports.{written_bytes}
 use Rattle.boxglue_program.specs.Texts.{end_line}
@@ -79,13 +79,13 @@ pub session_ran : (files : List NamedBytes) (n k : ℕ) (start now : SessionView
 session_ran files n k start now text answers answer before after bytes_written accepted new done ends =
     let all = ended start now ends.middle text answers ends.answers before after done ends.ran in
     let one : start.dialog.lines + 1 ≡ 1 = omega (arith, new.lines) in
-    let ran = ends.run files start.dialog.job (commands_of (lines_said (start.dialog.lines + 1) all.said)) all.replies new.represents all.ran in
-    let counted : WasRunAndSent files n (commands_of (lines_said (start.dialog.lines + 1) all.said)) all.replies ends.end k bytes_written =
-    subst (λ (m : ℕ). WasRunAndSent files m (commands_of (lines_said (start.dialog.lines + 1) all.said)) all.replies ends.end k bytes_written) new.failed
+    let ran = ends.run files start.dialog.job (commands_of (lines_of_contents (start.dialog.lines + 1) all.contents)) all.replies new.represents all.ran in
+    let counted : WasRunAndSent files n (commands_of (lines_of_contents (start.dialog.lines + 1) all.contents)) all.replies ends.end k bytes_written =
+    subst (λ (m : ℕ). WasRunAndSent files m (commands_of (lines_of_contents (start.dialog.lines + 1) all.contents)) all.replies ends.end k bytes_written) new.failed
     ran in
-    let run = subst (λ (number : ℕ). WasRunAndSent files n (commands_of (lines_said number all.said)) all.replies ends.end k bytes_written) one counted in
+    let run = subst (λ (number : ℕ). WasRunAndSent files n (commands_of (lines_of_contents number all.contents)) all.replies ends.end k bytes_written) one counted in
     record {
-      said = all.said;
+      contents = all.contents;
       replies = all.replies;
       end = ends.end;
       says = all.says;
@@ -94,11 +94,11 @@ session_ran files n k start now text answers answer before after bytes_written a
       answer_is =
           ap (λ (l : List ℕ). answers ++ l) ends.answer_is
           ∙ (sym (append_assoc answers ends.answers (end_line ends.end))
-          ∙ ap (λ (l : List ℕ). l ++ end_line ends.end) (all.answers_are ∙ ap (λ (number : ℕ). session_text number all.said all.replies) one));
+          ∙ ap (λ (l : List ℕ). l ++ end_line ends.end) (all.answers_are ∙ ap (λ (number : ℕ). session_text number all.contents all.replies) one));
       accepted_is =
           ends.accepted_is
-          ∙ (ap (λ (b : Bool). b && is_ok ends.end) (all.accepted ∙ ap (λ (b : Bool). b && are_accepted all.said all.replies) new.accepted)
-          ∙ and_grouped (has_no_bad all.said) (list_all is_ok all.replies) (is_ok ends.end));
+          ∙ (ap (λ (b : Bool). b && is_ok ends.end) (all.accepted ∙ ap (λ (b : Bool). b && are_accepted all.contents all.replies) new.accepted)
+          ∙ and_grouped (has_no_bad all.contents) (list_all is_ok all.replies) (is_ok ends.end));
     }
 
 -- The lines of a beginning of the input were run and answered, and nothing else was run.
@@ -108,24 +108,24 @@ stopped_after : (files : List NamedBytes) (n : ℕ) (start : SessionView) (all w
     → StoppedSession written_bytes all files n job.failed job.bytes_written answers
 stopped_after files n start all whole rest answers middle job new split ends ran is =
     let one : start.dialog.lines + 1 ≡ 1 = omega (arith, new.lines) in
-    let commands = commands_of (lines_said (start.dialog.lines + 1) ran.said) in
+    let commands = commands_of (lines_of_contents (start.dialog.lines + 1) ran.contents) in
     let last = ran.ran (first_machine files) new.represents in
     let counted : Run (first_machine files) n commands ran.replies last.0 middle.job.failed =
     subst (λ (m : ℕ). Run (first_machine files) m commands ran.replies last.0 middle.job.failed) new.failed last.1 in
-    let numbered : Run (first_machine files) n (commands_of (lines_said 1 ran.said)) ran.replies last.0 middle.job.failed =
-    subst (λ (number : ℕ). Run (first_machine files) n (commands_of (lines_said number ran.said)) ran.replies last.0 middle.job.failed) one counted in
+    let numbered : Run (first_machine files) n (commands_of (lines_of_contents 1 ran.contents)) ran.replies last.0 middle.job.failed =
+    subst (λ (number : ℕ). Run (first_machine files) n (commands_of (lines_of_contents number ran.contents)) ran.replies last.0 middle.job.failed) one counted in
     record {
       whole = whole;
       rest = rest;
       split = split;
       ends = ends;
-      said = ran.said;
+      contents = ran.contents;
       replies = ran.replies;
       says = ran.says;
       machine = last.0;
-      ran = subst (λ (j : JobView). Run (first_machine files) n (commands_of (lines_said 1 ran.said)) ran.replies last.0 j.failed) (sym is) numbered;
+      ran = subst (λ (j : JobView). Run (first_machine files) n (commands_of (lines_of_contents 1 ran.contents)) ran.replies last.0 j.failed) (sym is) numbered;
       sent = record { job = job; holds = subst (λ (j : JobView). Represents j last.0) (sym is) last.2; bytes_written_is = refl };
-      answer_is = ran.answers_are ∙ ap (λ (number : ℕ). session_text number ran.said ran.replies) one;
+      answer_is = ran.answers_are ∙ ap (λ (number : ℕ). session_text number ran.contents ran.replies) one;
     }
 
 -- It stopped somewhere in what followed.

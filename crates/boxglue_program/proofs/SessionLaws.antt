@@ -14,7 +14,7 @@ use Rattle.job_core.proofs.WholeRuns.{runs_joined, no_run}
 use Rattle.boxglue_script.specs.declared.script.Line.{Line}
 use Rattle.boxglue_script.specs.declared.line_content.LineContent.{LineContent}
 use Rattle.boxglue_script.specs.declared.line_content.LineContent.TheVariants.{Nothing, Command, Bad}
-use Rattle.boxglue_script.specs.LineContents.{SayEach, lines_said, has_no_bad}
+use Rattle.boxglue_script.specs.LineContents.{SayEach, lines_of_contents, has_no_bad}
 use Rattle.boxglue_script.proofs.LineContentLaws.{say_joined}
 use Rattle.boxglue_program.specs.Texts.{answer_line, script_refusal_text}
 use Rattle.boxglue_program.specs.Runs.{commands_of}
@@ -29,18 +29,18 @@ same_number : (number : ℕ) → number ≡ number + 0
 same_number number = omega arith
 
 -- The number of the line after a first one and those that follow it.
-next_number : (number : ℕ) (first : List LineContent) (said : LineContent) → number + 1 + length first ≡ number + length (said ∷ first)
-next_number number first said = omega arith
+next_number : (number : ℕ) (first : List LineContent) (content : LineContent) → number + 1 + length first ≡ number + length (content ∷ first)
+next_number number first content = omega arith
 
-pub said_joined : (number : ℕ) (first second : List LineContent) → lines_said number (first ++ second) ≡ lines_said number first ++ lines_said (number + length first) second
-said_joined number [] second = ap (λ (n : ℕ). lines_said n second) (same_number number)
-said_joined number (Nothing ∷ first) second = said_joined (number + 1) first second ∙ ap (λ (n : ℕ). lines_said (number + 1) first ++ lines_said n second) (next_number number first Nothing)
+pub said_joined : (number : ℕ) (first second : List LineContent) → lines_of_contents number (first ++ second) ≡ lines_of_contents number first ++ lines_of_contents (number + length first) second
+said_joined number [] second = ap (λ (n : ℕ). lines_of_contents n second) (same_number number)
+said_joined number (Nothing ∷ first) second = said_joined (number + 1) first second ∙ ap (λ (n : ℕ). lines_of_contents (number + 1) first ++ lines_of_contents n second) (next_number number first Nothing)
 said_joined number (Command command ∷ first) second =
     ap (λ (ls : List Line). record { number = number; command = command } ∷ ls)
-    (said_joined (number + 1) first second ∙ ap (λ (n : ℕ). lines_said (number + 1) first ++ lines_said n second) (next_number number first (Command command)))
-said_joined number (Bad cause ∷ first) second = said_joined (number + 1) first second ∙ ap (λ (n : ℕ). lines_said (number + 1) first ++ lines_said n second) (next_number number first (Bad cause))
+    (said_joined (number + 1) first second ∙ ap (λ (n : ℕ). lines_of_contents (number + 1) first ++ lines_of_contents n second) (next_number number first (Command command)))
+said_joined number (Bad cause ∷ first) second = said_joined (number + 1) first second ∙ ap (λ (n : ℕ). lines_of_contents (number + 1) first ++ lines_of_contents n second) (next_number number first (Bad cause))
 
-pub text_joined : (number : ℕ) (first second : List LineContent) (replies others : List Reply) → length replies ≡ length (lines_said number first)
+pub text_joined : (number : ℕ) (first second : List LineContent) (replies others : List Reply) → length replies ≡ length (lines_of_contents number first)
     → session_text number (first ++ second) (replies ++ others) ≡ session_text number first replies ++ session_text (number + length first) second others
 text_joined number [] second [] others each = ap (λ (n : ℕ). session_text n second others) (same_number number)
 text_joined number [] second (reply ∷ replies) others each = absurd (omega (arith, each))
@@ -81,16 +81,16 @@ accepted_joined first second replies others =
     ∙ (ap (λ (b : Bool). (has_no_bad first && has_no_bad second) && b) (list_all-append is_ok replies others)
     ∙ both_pairs (has_no_bad first) (has_no_bad second) (list_all is_ok replies) (list_all is_ok others))
 
-pub said_size : (all : List (List ℕ)) (said : List LineContent) → SayEach all said → length said ≡ length all
+pub said_size : (all : List (List ℕ)) (contents : List LineContent) → SayEach all contents → length contents ≡ length all
 said_size [] [] says = refl
-said_size [] (s ∷ said) says = absurd says
+said_size [] (s ∷ contents) says = absurd says
 said_size (line ∷ all) [] says = absurd says
-said_size (line ∷ all) (s ∷ said) says = ap suc (said_size all said says.1)
+said_size (line ∷ all) (s ∷ contents) says = ap suc (said_size all contents says.1)
 
 -- No line was run.
 pub none_answered : (old : DialogView) → AnswersLines old [] [] old
 none_answered old = record {
-  said = [];
+  contents = [];
   replies = [];
   says = tt;
   ran = no_run old.job;
@@ -106,31 +106,31 @@ pub answered_both : (old middle new : DialogView) (all more : List (List ℕ)) (
     → AnswersLines old all answers middle → AnswersLines middle more others new → AnswersLines old (all ++ more) (answers ++ others) new
 answered_both old middle new all more answers others first second =
     let number = old.lines + 1 in
-    let count : middle.lines + 1 ≡ number + length first.said = omega (arith, first.counted, said_size all first.said first.says) in
-    let sizes : length first.replies + length second.replies ≡ length (lines_said number first.said) + length (lines_said (middle.lines + 1) second.said) = omega (arith, first.each, second.each) in
-    let lines_are : lines_said number (first.said ++ second.said) ≡ lines_said number first.said ++ lines_said (middle.lines + 1) second.said =
-    said_joined number first.said second.said ∙ ap (λ (n : ℕ). lines_said number first.said ++ lines_said n second.said) (sym count) in
+    let count : middle.lines + 1 ≡ number + length first.contents = omega (arith, first.counted, said_size all first.contents first.says) in
+    let sizes : length first.replies + length second.replies ≡ length (lines_of_contents number first.contents) + length (lines_of_contents (middle.lines + 1) second.contents) = omega (arith, first.each, second.each) in
+    let lines_are : lines_of_contents number (first.contents ++ second.contents) ≡ lines_of_contents number first.contents ++ lines_of_contents (middle.lines + 1) second.contents =
+    said_joined number first.contents second.contents ∙ ap (λ (n : ℕ). lines_of_contents number first.contents ++ lines_of_contents n second.contents) (sym count) in
     record {
-      said = first.said ++ second.said;
+      contents = first.contents ++ second.contents;
       replies = first.replies ++ second.replies;
-      says = say_joined all more first.said second.said first.says second.says;
+      says = say_joined all more first.contents second.contents first.says second.says;
       ran = subst (λ (commands : List ACommand). RunsTo old.job commands (first.replies ++ second.replies) new.job)
-          (sym (ap commands_of lines_are ∙ commands_joined (lines_said number first.said) (lines_said (middle.lines + 1) second.said)))
-          (runs_joined old.job middle.job new.job (commands_of (lines_said number first.said)) (commands_of (lines_said (middle.lines + 1) second.said)) first.replies second.replies first.ran second.ran);
+          (sym (ap commands_of lines_are ∙ commands_joined (lines_of_contents number first.contents) (lines_of_contents (middle.lines + 1) second.contents)))
+          (runs_joined old.job middle.job new.job (commands_of (lines_of_contents number first.contents)) (commands_of (lines_of_contents (middle.lines + 1) second.contents)) first.replies second.replies first.ran second.ran);
       each =
           length-append first.replies second.replies
           ∙ (sizes
-          ∙ (sym (length-append (lines_said number first.said) (lines_said (middle.lines + 1) second.said)) ∙ sym (ap length lines_are)));
+          ∙ (sym (length-append (lines_of_contents number first.contents) (lines_of_contents (middle.lines + 1) second.contents)) ∙ sym (ap length lines_are)));
       answers_are =
           ap (λ (text : List ℕ). text ++ others) first.answers_are
-          ∙ (ap (λ (text : List ℕ). session_text number first.said first.replies ++ text) (second.answers_are ∙ ap (λ (n : ℕ). session_text n second.said second.replies) count)
-          ∙ sym (text_joined number first.said second.said first.replies second.replies first.each));
+          ∙ (ap (λ (text : List ℕ). session_text number first.contents first.replies ++ text) (second.answers_are ∙ ap (λ (n : ℕ). session_text n second.contents second.replies) count)
+          ∙ sym (text_joined number first.contents second.contents first.replies second.replies first.each));
       counted = omega (arith, first.counted, second.counted, length-append all more);
       accepted =
           second.accepted
-          ∙ (ap (λ (b : Bool). b && are_accepted second.said second.replies) first.accepted
-          ∙ (and_grouped old.accepted (are_accepted first.said first.replies) (are_accepted second.said second.replies)
-          ∙ ap (λ (b : Bool). old.accepted && b) (sym (accepted_joined first.said second.said first.replies second.replies))));
+          ∙ (ap (λ (b : Bool). b && are_accepted second.contents second.replies) first.accepted
+          ∙ (and_grouped old.accepted (are_accepted first.contents first.replies) (are_accepted second.contents second.replies)
+          ∙ ap (λ (b : Bool). old.accepted && b) (sym (accepted_joined first.contents second.contents first.replies second.replies))));
       goes_on = goes_further (writing_of old.job) (writing_of middle.job) (writing_of new.job) first.goes_on second.goes_on;
     }
 

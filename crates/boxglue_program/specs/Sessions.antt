@@ -16,7 +16,7 @@ use Rattle.job_core.specs.Headline.{WasRun, WasRunAndSent}
 use Rattle.job_core.specs.Jobs.{JobView, Represents, RunsTo, writing_of}
 use Rattle.boxglue_script.specs.declared.line_content.LineContent.{LineContent}
 use Rattle.boxglue_script.specs.declared.line_content.LineContent.TheVariants.{Nothing, Command, Bad}
-use Rattle.boxglue_script.specs.LineContents.{SayEach, IsWhole, lines_said, has_no_bad}
+use Rattle.boxglue_script.specs.LineContents.{SayEach, IsWhole, lines_of_contents, has_no_bad}
 use Rattle.boxglue_program.specs.Reports.{Reports}
 use Rattle.boxglue_program.specs.Texts.{answer_line, script_refusal_text, end_line}
 use Rattle.boxglue_program.specs.Runs.{commands_of, is_accepted, IsUntouched, WritesFront}
@@ -31,7 +31,7 @@ session_text number (Command command ∷ more) (reply ∷ replies) = answer_line
 
 -- Whether nothing was refused, neither a line nor a command.
 abbrev pub are_accepted : List LineContent → List Reply → Bool
-are_accepted said replies = has_no_bad said && list_all is_ok replies
+are_accepted contents replies = has_no_bad contents && list_all is_ok replies
 
 -- A text was sent to a client that reads, or does not read any longer. All of it went out; or a beginning of it, and the client does not read any
 -- longer.
@@ -49,14 +49,14 @@ pub record DialogView : Type 0 where
 
 -- Lines were run, and these are their answers.
 pub record AnswersLines (old : DialogView) (all : List (List ℕ)) (answers : List ℕ) (new : DialogView) : Type 0 where
-  pub said : List LineContent
+  pub contents : List LineContent
   pub replies : List Reply
-  pub says : SayEach all said
-  pub ran : RunsTo old.job (commands_of (lines_said (old.lines + 1) said)) replies new.job
-  pub each : length replies ≡ length (lines_said (old.lines + 1) said)
-  pub answers_are : answers ≡ session_text (old.lines + 1) said replies
+  pub says : SayEach all contents
+  pub ran : RunsTo old.job (commands_of (lines_of_contents (old.lines + 1) contents)) replies new.job
+  pub each : length replies ≡ length (lines_of_contents (old.lines + 1) contents)
+  pub answers_are : answers ≡ session_text (old.lines + 1) contents replies
   pub counted : new.lines ≡ old.lines + length all
-  pub accepted : new.accepted ≡ (old.accepted && are_accepted said replies)
+  pub accepted : new.accepted ≡ (old.accepted && are_accepted contents replies)
   pub goes_on : GoesOn (writing_of old.job) (writing_of new.job)
 
 -- A job was finished with this end: what a new job had run up to then was run whole.
@@ -124,14 +124,14 @@ pub record EndsSession (old : SessionView) (k : ℕ) (bytes_written : Option (Li
 -- The whole input was run, and the job was finished. This is the text of all answers, and whether nothing was refused.
 pub record RanSession (reports : Reports) (text : List ℕ) (files : List NamedBytes) (n k : ℕ) (bytes_written : Option (List ℕ))
     (answer : List ℕ) (accepted : Bool) : Type 0 where
-  pub said : List LineContent
+  pub contents : List LineContent
   pub replies : List Reply
   pub end : Result Summary Refusal
-  pub says : SayEach (lines text) said
-  pub run : WasRun files n (commands_of (lines_said 1 said)) replies end k bytes_written
+  pub says : SayEach (lines text) contents
+  pub run : WasRun files n (commands_of (lines_of_contents 1 contents)) replies end k bytes_written
   pub sent : reports.HasEnded run.middle run.last end bytes_written
-  pub answer_is : answer ≡ session_text 1 said replies ++ end_line end
-  pub accepted_is : accepted ≡ (has_no_bad said && is_accepted replies end)
+  pub answer_is : answer ≡ session_text 1 contents replies ++ end_line end
+  pub accepted_is : accepted ≡ (has_no_bad contents && is_accepted replies end)
 
 -- A session stopped: the lines of a beginning of its input were run and answered, and nothing else was run. The job was not finished.
 pub record StoppedSession (reports : Reports) (text : List ℕ) (files : List NamedBytes) (n k : ℕ) (bytes_written : Option (List ℕ))
@@ -140,13 +140,13 @@ pub record StoppedSession (reports : Reports) (text : List ℕ) (files : List Na
   pub rest : List ℕ
   pub split : text ≡ whole ++ rest
   pub ends : IsWhole whole ⊎ (rest ≡ [])
-  pub said : List LineContent
+  pub contents : List LineContent
   pub replies : List Reply
-  pub says : SayEach (lines whole) said
+  pub says : SayEach (lines whole) contents
   pub machine : Machine
-  pub ran : Run (first_machine files) n (commands_of (lines_said 1 said)) replies machine k
+  pub ran : Run (first_machine files) n (commands_of (lines_of_contents 1 contents)) replies machine k
   pub sent : reports.HasStopped machine bytes_written
-  pub answer_is : answer ≡ session_text 1 said replies
+  pub answer_is : answer ≡ session_text 1 contents replies
 
 -- Memory was refused: before anything was run, or later. A line without a line feed was run only at the end of the input, and AtEnd says that this
 -- text is the whole input.

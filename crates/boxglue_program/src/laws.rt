@@ -12,7 +12,7 @@ ghost use Rattle.tfm_core.specs.NamedBytes.{NamedBytes};
 ghost use Rattle.boxglue_script.specs.declared.script.Line.{Line};
 ghost use Rattle.boxglue_script.specs.declared.line_content.LineContent.{LineContent};
 ghost use Rattle.boxglue_script.specs.Script.{IsScript};
-ghost use Rattle.boxglue_script.specs.LineContents.{IsWhole, SayEach, lines_said};
+ghost use Rattle.boxglue_script.specs.LineContents.{IsWhole, SayEach, lines_of_contents};
 ghost use Rattle.job_core.specs.Headline.{WasRun};
 ghost use Rattle.boxglue_program.specs.Rows.{OneRuleAnswers, TextAnswers};
 ghost use Rattle.boxglue_program.specs.Outcomes.{is_accepting, replies_outcome, run_outcome};
@@ -46,9 +46,9 @@ pub fn a_run_without_a_page_sends_nothing()
 
 /// A session over a good script has the answers, the file and the acceptance that the run of the whole script has, and no others.
 pub fn a_session_over_a_good_script()
-    ensures texts { (text : List ℕ) (found : List Line) (said : List LineContent) (replies : List Reply) (end : Result Summary Refusal)
-        → IsScript text found → SayEach (lines text) said
-        → length replies ≡ length found → session_text 1 said replies ++ end_line end ≡ answers_text (line_numbers found) replies end }
+    ensures texts { (text : List ℕ) (found : List Line) (contents : List LineContent) (replies : List Reply) (end : Result Summary Refusal)
+        → IsScript text found → SayEach (lines text) contents
+        → length replies ≡ length found → session_text 1 contents replies ++ end_line end ≡ answers_text (line_numbers found) replies end }
     ensures run { (text answer : List ℕ) (found : List Line) (files : List NamedBytes) (n k : ℕ) (bytes_written : Option (List ℕ)) (accepted : Bool)
         → IsScript text found
         → RanSession written_bytes text files n k bytes_written answer accepted
@@ -61,11 +61,11 @@ pub fn a_session_over_a_good_script()
 /// What is read in two pieces, the first of them with whole lines, is run and answered as what is read at once: the answers are those to the first
 /// piece and then those to the second, whose lines are counted on.
 pub fn a_session_in_pieces()
-    ensures texts { (text more : List ℕ) (first second said : List LineContent) (replies : List Reply) → IsWhole text → SayEach (lines text) first
+    ensures texts { (text more : List ℕ) (first second contents : List LineContent) (replies : List Reply) → IsWhole text → SayEach (lines text) first
         → SayEach (lines more) second
-        → SayEach (lines (text ++ more)) said → length replies ≡ length (lines_said 1 said)
-        → session_text 1 said replies ≡ session_text 1 first (take (length (lines_said 1 first)) replies)
-        ++ session_text (length first + 1) second (drop (length (lines_said 1 first)) replies) }
+        → SayEach (lines (text ++ more)) contents → length replies ≡ length (lines_of_contents 1 contents)
+        → session_text 1 contents replies ≡ session_text 1 first (take (length (lines_of_contents 1 first)) replies)
+        ++ session_text (length first + 1) second (drop (length (lines_of_contents 1 first)) replies) }
     ensures runs { (old middle new : DialogView) (text more answers others : List ℕ) → IsWhole text → AnswersLines old (lines text) answers middle
         → AnswersLines middle (lines more) others new → AnswersLines old (lines (text ++ more)) (answers ++ others) new }
 {}

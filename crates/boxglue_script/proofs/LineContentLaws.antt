@@ -10,7 +10,7 @@ use Rattle.boxglue_script.specs.declared.line_content.LineContent.TheVariants.{N
 use Rattle.boxglue_script.specs.ScriptLines.{is_passed_over}
 use Rattle.boxglue_script.specs.Causes.{IsCause}
 use Rattle.boxglue_script.specs.Script.{HoldsBytes, SaysLine, SayFrom}
-use Rattle.boxglue_script.specs.LineContents.{Says, SayEach, SayOne, IsWhole, lines_said, has_no_bad}
+use Rattle.boxglue_script.specs.LineContents.{Says, SayEach, SayOne, IsWhole, lines_of_contents, has_no_bad}
 use Rattle.boxglue_script.specs.declared.script.ScriptFault.TheVariants.{BadScript}
 use Rattle.boxglue_script.specs.Private.Reading.{command_of_line, content_of, LinesOrFault, lines_then, reading_from, GivesCommand, ReadsOn}
 use Rattle.boxglue_script.specs.Private.Reading.{HasFaultAtLine, ReadsBytes}
@@ -98,7 +98,7 @@ one_command : (line : List ℕ) (command other : ACommand) → SaysLine line com
 one_command line command other h k = let same : Ok other ≡ Ok command = sym (line_read line other k) ∙ line_read line command h in cc
 
 -- The lines of a good script say its commands, and none is bad.
-pub script_said : (number : ℕ) (all : List (List ℕ)) (found : List Line) (said : List LineContent) → SayFrom number all found → SayEach all said → (lines_said number said ≡ found) × (has_no_bad said ≡ true)
+pub script_said : (number : ℕ) (all : List (List ℕ)) (found : List Line) (said : List LineContent) → SayFrom number all found → SayEach all said → (lines_of_contents number said ≡ found) × (has_no_bad said ≡ true)
 script_said number [] found [] h k = (sym h, refl)
 script_said number [] found (s ∷ said) h k = absurd k
 script_said number (line ∷ all) found [] h k = absurd k
@@ -112,12 +112,12 @@ script_said number (line ∷ all) found (Command other ∷ said) (inr (command, 
 script_said number (line ∷ all) found (Bad cause ∷ said) (inr (command, more, is, says, h)) k = absurd (not_said line cause command k.0.1 says)
 
 -- Lines of which none is bad are those of a good script.
-pub said_script : (number : ℕ) (all : List (List ℕ)) (said : List LineContent) → SayEach all said → has_no_bad said ≡ true → SayFrom number all (lines_said number said)
+pub said_script : (number : ℕ) (all : List (List ℕ)) (said : List LineContent) → SayEach all said → has_no_bad said ≡ true → SayFrom number all (lines_of_contents number said)
 said_script number [] [] h good = refl
 said_script number [] (s ∷ said) h good = absurd h
 said_script number (line ∷ all) [] h good = absurd h
 said_script number (line ∷ all) (Nothing ∷ said) h good = inl (h.0, said_script (number + 1) all said h.1 good)
-said_script number (line ∷ all) (Command command ∷ said) h good = inr (command, lines_said (number + 1) said, refl, h.0, said_script (number + 1) all said h.1 good)
+said_script number (line ∷ all) (Command command ∷ said) h good = inr (command, lines_of_contents (number + 1) said, refl, h.0, said_script (number + 1) all said h.1 good)
 said_script number (line ∷ all) (Bad cause ∷ said) h good = absurd (true_not_false good refl)
 
 -- A line that gives a command is one for which memory may be wanted.

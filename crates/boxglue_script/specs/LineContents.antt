@@ -16,16 +16,16 @@ Says line (Bad cause) = (is_passed_over line ≡ false) × IsCause cause line
 -- Each of the lines says what stands at its place.
 abbrev pub SayEach : List (List ℕ) → List LineContent → Type 0
 SayEach [] [] = Unit {0}
-SayEach [] (said ∷ more) = ⊥
+SayEach [] (content ∷ more) = ⊥
 SayEach (line ∷ rest) [] = ⊥
-SayEach (line ∷ rest) (said ∷ more) = Says line said × SayEach rest more
+SayEach (line ∷ rest) (content ∷ more) = Says line content × SayEach rest more
 
 -- The commands that lines give, each with the number of its line. The first line has this number.
-abbrev pub lines_said : ℕ → List LineContent → List Line
-lines_said number [] = []
-lines_said number (Nothing ∷ more) = lines_said (number + 1) more
-lines_said number (Command command ∷ more) = record { number = number; command = command } ∷ lines_said (number + 1) more
-lines_said number (Bad cause ∷ more) = lines_said (number + 1) more
+abbrev pub lines_of_contents : ℕ → List LineContent → List Line
+lines_of_contents number [] = []
+lines_of_contents number (Nothing ∷ more) = lines_of_contents (number + 1) more
+lines_of_contents number (Command command ∷ more) = record { number = number; command = command } ∷ lines_of_contents (number + 1) more
+lines_of_contents number (Bad cause ∷ more) = lines_of_contents (number + 1) more
 
 -- No line is bad.
 abbrev pub has_no_bad : List LineContent → Bool
@@ -40,4 +40,4 @@ IsWhole text = (text ≡ []) ⊎ ((front : List ℕ) × (text ≡ front ++ 10 �
 
 -- What lines say is one: there is such a list, and no other.
 abbrev pub SayOne : List (List ℕ) → Type 0
-SayOne lines = (said : List LineContent) × SayEach lines said × ((other : List LineContent) → SayEach lines other → other ≡ said)
+SayOne lines = (contents : List LineContent) × SayEach lines contents × ((other : List LineContent) → SayEach lines other → other ≡ contents)

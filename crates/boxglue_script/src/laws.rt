@@ -5,7 +5,7 @@ ghost use Rattle.std.specs.Str.Lines.{lines};
 ghost use Rattle.boxglue_script.specs.declared.line_content.LineContent.{LineContent};
 ghost use Rattle.boxglue_script.specs.declared.script.Line.{Line};
 ghost use Rattle.boxglue_script.specs.Script.{IsScript};
-ghost use Rattle.boxglue_script.specs.LineContents.{SayEach, SayOne, IsWhole, lines_said, has_no_bad};
+ghost use Rattle.boxglue_script.specs.LineContents.{SayEach, SayOne, IsWhole, lines_of_contents, has_no_bad};
 ghost use Rattle.boxglue_script.specs.declared.cause.Cause.{Cause};
 ghost use Rattle.boxglue_script.specs.declared.cause.Cause.TheVariants as causes;
 ghost use Rattle.boxglue_script.specs.Causes.{IsFieldCause, IsCause};
@@ -82,10 +82,10 @@ pub fn reading_in_pieces()
 
 /// The lines of a good script say just its commands, and no line is bad. An input without a bad line is a good script.
 pub fn a_good_script_has_no_bad_line()
-    ensures commands { (text : List ℕ) (found : List Line) (said : List LineContent) → IsScript text found → SayEach (lines text) said
-        → lines_said 1 said ≡ found }
-    ensures none { (text : List ℕ) (found : List Line) (said : List LineContent) → IsScript text found → SayEach (lines text) said
-        → has_no_bad said ≡ true }
-    ensures good { (text : List ℕ) (said : List LineContent) → SayEach (lines text) said → has_no_bad said ≡ true
-        → IsScript text (lines_said 1 said) }
+    ensures commands { (text : List ℕ) (found : List Line) (contents : List LineContent) → IsScript text found → SayEach (lines text) contents
+        → lines_of_contents 1 contents ≡ found }
+    ensures none { (text : List ℕ) (found : List Line) (contents : List LineContent) → IsScript text found → SayEach (lines text) contents
+        → has_no_bad contents ≡ true }
+    ensures good { (text : List ℕ) (contents : List LineContent) → SayEach (lines text) contents → has_no_bad contents ≡ true
+        → IsScript text (lines_of_contents 1 contents) }
 {}

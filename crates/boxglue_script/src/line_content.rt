@@ -30,7 +30,7 @@ pub enum LineContent {
 /// Reads one line, without its end. The error is a refused growth, only where the line gives a text, a special or a font.
 pub fn read_line(alloc: Global, line: &[u8]) -> Result<LineContent, AllocError>
     ensures said { IfOk result (Says line.now) }
-    ensures only { IfOk result (λ said. (other : ALineContent) → Says line.now other → other ≡ said) }
+    ensures only { IfOk result (λ content. (other : ALineContent) → Says line.now other → other ≡ content) }
     ensures memory { OnErr result ((command : ACommand) × SaysLine line.now command × HoldsBytes command) }
 {
     read_line_of(alloc, line, false)
@@ -44,7 +44,7 @@ pub(crate) fn read_line_of(
 ) -> Result<LineContent, AllocError>
     requires { plain ≡ true → IsPrintable line.now }
     ensures said { IfOk result (Says line.now) }
-    ensures only { IfOk result (λ said. (other : ALineContent) → Says line.now other → other ≡ said) }
+    ensures only { IfOk result (λ content. (other : ALineContent) → Says line.now other → other ≡ content) }
     ensures memory { OnErr result ((command : ACommand) × SaysLine line.now command × HoldsBytes command) }
 {
     if is_passed_over(line) {
