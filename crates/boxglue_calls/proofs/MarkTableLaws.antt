@@ -15,7 +15,6 @@ use Rattle.dvi_read.specs.declared.check.checked_file.CheckedFile.{CheckedFile}
 use Rattle.dvi_read.specs.declared.seen_items.SeenItems.{SeenItems}
 use Rattle.tfm_core.specs.FileWidths.{file_widths}
 use Rattle.tfm_core.specs.NamedBytes.{NamedBytes}
-use Rattle.boxglue_print.specs.declared.output.Output.{Output}
 use Rattle.boxglue_calls.specs.Buffers.{HandsOver}
 use Rattle.boxglue_calls.specs.Private.MarkFiles.{FitsIn, HandsOverFully, IsChecked, IsRefusal}
 use Rattle.boxglue_calls.specs.Private.MarkRows.{HasRowsFor, HoldsRows}
@@ -99,14 +98,14 @@ module _ (files : List NamedBytes) (bytes : List ℕ) (units : UnitsOf) (s : See
       handed_rows has.rows here has.starts (mark_outputs pages marks text) (mark_outputs pages_new marks_new text) 0 (inl (has.pages, has.marks, holds_none text, refl))
 
 -- The line of a refusal.
-pub refusal_handed : (files : List NamedBytes) (bytes : List ℕ) (output : Output) (pages : List DviPage) (marks : List DviMark) (text text_new : List ℕ) (sizes : MarkSizes) (status : ℕ) → IsRefusal files bytes output
-    → HandsOver text text_new output.text.items 1 status → sizes.pages ≡ 0 → sizes.marks ≡ 0 → sizes.text ≡ length output.text.items
+pub refusal_handed : (files : List NamedBytes) (bytes line : List ℕ) (pages : List DviPage) (marks : List DviMark) (text text_new : List ℕ) (sizes : MarkSizes) (status : ℕ) → IsRefusal files bytes line
+    → HandsOver text text_new line 1 status → sizes.pages ≡ 0 → sizes.marks ≡ 0 → sizes.text ≡ length line
     → no_units ≡ record { num = sizes.num; den = sizes.den; mag = sizes.mag }
     → HandsOverFully files bytes (mark_outputs pages marks text) (mark_outputs pages marks text_new) sizes status
-refusal_handed files bytes output pages marks text text_new sizes status refusal handed pages_size marks_size text_size units =
-    let short = refusal.text_short in (
+refusal_handed files bytes line pages marks text text_new sizes status refusal handed pages_size marks_size text_size units =
+    let short = refusal.short in (
       record {
-        outputs = mark_outputs [] [] output.text.items;
+        outputs = mark_outputs [] [] line;
         accepted = false;
         table = inr (refusal.refuses, refl, refl, sym units);
         handed = by_text handed;
@@ -117,7 +116,7 @@ refusal_handed files bytes output pages marks text text_new sizes status refusal
       record { pages_fit = omega arith; marks_fit = omega arith; text_fits = short },
     )
   where
-    by_text : HandsOver text text_new output.text.items 1 status → HandsOverAll (mark_outputs pages marks text) (mark_outputs pages marks text_new) (mark_outputs [] [] output.text.items) (read_status false) status
+    by_text : HandsOver text text_new line 1 status → HandsOverAll (mark_outputs pages marks text) (mark_outputs pages marks text_new) (mark_outputs [] [] line) (read_status false) status
     by_text (inl (holds, is)) = inl (holds_none pages, holds_none marks, holds, is)
     by_text (inr (few, same, is)) = inr (inr (inr few), refl, refl, same, is)
 

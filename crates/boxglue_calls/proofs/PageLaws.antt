@@ -1,11 +1,12 @@
 -- What is handed over has a status that says so.
+use Rattle.std.specs.declared.alloc.Global.{Global}
+use Rattle.std.specs.Prelude.{Vec}
 use Rattle.std.proofs.Common.{◌≡◌, ◌⊎◌, List, ℕ, Bool, true, false, inl, inr, refl, subst, arith, ◌∙◌}
 use Rattle.raster_core.specs.PackedRows.{pixel_bytes}
 use Rattle.raster_core.specs.PaintOptions.{PaintOptionsView}
 use Rattle.raster_core.specs.PixelGrids.{PixelGrid}
 use Rattle.tfm_core.specs.NamedBytes.{NamedBytes}
 use Rattle.boxglue_print.specs.Outputs.{IsPageBitmap, LacksPage}
-use Rattle.boxglue_print.specs.declared.output.Output.{Output}
 use Rattle.boxglue_print.specs.declared.output.Painting.{Painting}
 use Rattle.boxglue_print.specs.declared.output.Painting.TheVariants.{Painted, Refusal}
 use Rattle.boxglue_print.proofs.PrintLemmas.{shown_page}
@@ -55,9 +56,9 @@ painted_bits files other bytes options painting grid text accepted same is paint
     let shows = subst (λ (p : Painting). IsPageBitmap other bytes options p) painted (subst (λ (f : List NamedBytes). IsPageBitmap f bytes options painting) same is) in
     inl (grid, shows, text_is, accepted_is)
 
-pub refused_bits : (files other : List NamedBytes) (bytes : List ℕ) (options : PaintOptionsView) (painting : Painting) (output : Output)
-    → files ≡ other → IsPageBitmap files bytes options painting → painting ≡ Refusal output → IsPaintedInBits other bytes options output.text.items output.accepted
-refused_bits files other bytes options painting output same is refused =
+pub refused_bits : (files other : List NamedBytes) (bytes : List ℕ) (options : PaintOptionsView) (painting : Painting) (text : Vec ℕ Global)
+    → files ≡ other → IsPageBitmap files bytes options painting → painting ≡ Refusal text → IsPaintedInBits other bytes options text.items false
+refused_bits files other bytes options painting text same is refused =
     inr (subst (λ (p : Painting). IsPageBitmap other bytes options p) refused (subst (λ (f : List NamedBytes). IsPageBitmap f bytes options painting) same is))
 
 -- A file whose page is painted has that page.

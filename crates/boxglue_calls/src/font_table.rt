@@ -9,7 +9,7 @@ ghost use Rattle.boxglue_calls.specs.Calls.{KeepsUnread, ReadsFonts};
 use crate::buffers::hand_over_both;
 use crate::pages::file_status;
 use crate::status::OUT_OF_MEMORY;
-use boxglue_print::{DviFault, Output, defined_fonts, refusal};
+use boxglue_print::{DviFault, defined_fonts, refusal};
 use dvi_ops::FontDefinition;
 use std::alloc::{AllocError, Global};
 
@@ -90,11 +90,11 @@ fn refused_table(alloc: Global, fault: DviFault<'_>) -> Result<FontTable, AllocE
     ensures { IfOk result (λ table. (bytes : List ℕ) → BreaksFonts bytes fault.entry
         → IsFontTable bytes table.fonts.items table.text.items table.accepted) }
 {
-    let Output { text, accepted } = refusal(alloc, fault)?;
+    let text = refusal(alloc, fault)?;
     Ok(FontTable {
         fonts: Vec::new(alloc),
         text,
-        accepted,
+        accepted: false,
     })
 }
 

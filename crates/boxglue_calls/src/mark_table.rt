@@ -13,7 +13,7 @@ use crate::buffers::hand_over;
 use crate::given::{Font, are_named, font_files};
 use crate::mark_rows::{RowCounts, count_rows, write_rows};
 use crate::status::{ACCEPTED, BAD_FONT_NAME, BUFFER_TOO_SMALL, OUT_OF_MEMORY, REFUSED};
-use boxglue_print::{Dvi, DviFault, Output, refusal};
+use boxglue_print::{Dvi, DviFault, refusal};
 use dvi_ops::Units;
 use dvi_read::SeenItems;
 use scaled_core::COUNTS;
@@ -75,13 +75,13 @@ fn place_of(fault: DviFault<'_>) -> usize
 }
 
 /// The line of a refusal. It is short, since a place is a number of 64 bits.
-fn short_refusal(alloc: Global, fault: DviFault<'_>) -> Result<Output, AllocError>
-    ensures { IfOk result (IsShortRefusal fault.entry) }
+fn short_refusal(alloc: Global, fault: DviFault<'_>) -> Result<Vec<u8>, AllocError>
+    ensures { IfOk result (λ line. IsShortRefusal fault.entry line.items) }
 {
     // A fact for the proofs: the place of a broken rule is a number of 64 bits.
     let _ = place_of(fault);
-    let output = refusal(alloc, fault)?;
-    Ok(output)
+    let line = refusal(alloc, fault)?;
+    Ok(line)
 }
 
 /// The sizes of the tables of a file, and its units.
@@ -132,19 +132,19 @@ fn hand_over_rows(
 }
 
 /// Hands the line of a refusal over. There are no rows and no units.
-fn hand_over_refusal(output: &Output, text: &mut [u8], sizes: &mut MarkSizes) -> u32
-    ensures { (files : List NamedBytes) (bytes : List ℕ) → IsRefusal files bytes output.now → (pages : List DviPage) (marks : List DviMark)
+fn hand_over_refusal(line: &[u8], text: &mut [u8], sizes: &mut MarkSizes) -> u32
+    ensures { (files : List NamedBytes) (bytes : List ℕ) → IsRefusal files bytes line.now → (pages : List DviPage) (marks : List DviMark)
         → HandsOverFully files bytes (mark_outputs pages marks text.old) (mark_outputs pages marks text.new) sizes.new result }
 {
     *sizes = MarkSizes {
         pages: 0,
         marks: 0,
-        text: output.text.len(),
+        text: line.len(),
         num: 0,
         den: 0,
         mag: 0,
     };
-    hand_over(&output.text, text, REFUSED)
+    hand_over(line, text, REFUSED)
 }
 
 /// Hands over the tables of a DVI file with these fonts, which have names, or the line of its refusal. All memory is taken before.
@@ -173,8 +173,8 @@ fn hand_over_marks(
             Ok(hand_over_rows(&mut seen_items, units, pages, marks, sizes))
         }
         Err(fault) => {
-            let output = short_refusal(alloc, fault)?;
-            Ok(hand_over_refusal(&output, text, sizes))
+            let line = short_refusal(alloc, fault)?;
+            Ok(hand_over_refusal(&line, text, sizes))
         }
     }
 }

@@ -29,7 +29,12 @@ fn bitmap_bits(
     let painting = page_bitmap(alloc, dvi, &files, options)?;
     let bitmap = match painting {
         Painting::Painted(bitmap) => bitmap,
-        Painting::Refusal(output) => return Ok(output),
+        Painting::Refusal(text) => {
+            return Ok(Output {
+                text,
+                accepted: false,
+            });
+        }
     };
     let text = bitmap.pixel_bytes(alloc)?;
     Ok(Output {

@@ -51,8 +51,9 @@ fn list_named(
     match Dvi::open(alloc, dvi, &files) {
         Ok(opened) => list_opened(alloc, &opened, text, size),
         Err(fault) => {
-            let output = refusal(alloc, fault)?;
-            Ok(hand_over_output(&output, text, size))
+            let line = refusal(alloc, fault)?;
+            *size = line.len();
+            Ok(hand_over(&line, text, REFUSED))
         }
     }
 }

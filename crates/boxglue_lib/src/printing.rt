@@ -11,9 +11,7 @@ ghost use Rattle.boxglue_program.specs.Runs.{WritesFront};
 ghost use Rattle.boxglue_lib.specs.Faults.{of_paint};
 ghost use Rattle.boxglue_lib.specs.declared.printing.PrintFault.TheVariants.{OutOfMemory, Unwritten};
 
-use boxglue_print::{
-    Bitmap, Dvi, Lines, Output, PaintFault, PaintOptions, Painting, page_bitmap, refusal,
-};
+use boxglue_print::{Bitmap, Dvi, Lines, PaintFault, PaintOptions, Painting, page_bitmap, refusal};
 use boxglue_program::{FontFile, UnwrittenText, write_text};
 use std::alloc::{AllocError, Global};
 use std::io::Write;
@@ -100,9 +98,9 @@ pub fn list_file<W: Write>(
     let opened = match Dvi::open(alloc, dvi, files) {
         Ok(opened) => opened,
         Err(fault) => {
-            let Output { text, accepted } = refusal(alloc, fault)?;
+            let text = refusal(alloc, fault)?;
             write_text(writer, &text)?;
-            return Ok(accepted);
+            return Ok(false);
         }
     };
     let mut lines = opened.lines()?;
@@ -152,9 +150,9 @@ pub fn paint_file<W: Write>(
 {
     let bitmap = match page_bitmap(alloc, dvi, files, options)? {
         Painting::Painted(bitmap) => bitmap,
-        Painting::Refusal(Output { text, accepted }) => {
+        Painting::Refusal(text) => {
             write_text(writer, &text)?;
-            return Ok(accepted);
+            return Ok(false);
         }
     };
     let mut rows = Vec::with_capacity(alloc, PIECE)?;

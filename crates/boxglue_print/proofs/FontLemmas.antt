@@ -1,7 +1,6 @@
 -- The fonts that a file defines, and what a fault says of a file.
-use Rattle.std.proofs.Common.{◌≡◌, ◌≢◌, ◌-◌, [], List, ℕ, Bool, false, length, drop, inl, inr, Result, Ok, Err, OnOk, IfOk, ap, subst, subst₂, ◌∙◌, sym, refl, arith}
+use Rattle.std.proofs.Common.{◌≡◌, ◌≢◌, ◌-◌, [], List, ℕ, Bool, false, length, drop, inl, inr, ap, subst, subst₂, ◌∙◌, sym, refl, arith}
 use Rattle.std.proofs.lemmas.List.{length-drop, length-take-le}
-use Rattle.std.specs.declared.alloc.AllocError.{AllocError}
 use Rattle.std.specs.Fmt.{digits}
 use Rattle.dvi_scan.specs.Closing.{Closes, ClosesTo, IsClosingFault}
 use Rattle.dvi_scan.proofs.ClosingLemmas.{broken_closing}
@@ -29,8 +28,7 @@ use Rattle.tfm_core.specs.FileWidths.{file_widths}
 use Rattle.tfm_core.specs.NamedBytes.{NamedBytes}
 use Rattle.boxglue_print.specs.Faults.{fault_line}
 use Rattle.boxglue_print.specs.FontLines.{KnownFontLines, check_sum_text, font_line, number_and_name, sizes, space_and_number, units_line, word_byte}
-use Rattle.boxglue_print.specs.Fonts.{AreFontsPrinted, BreaksFonts, DefinesFonts, RefusesFonts}
-use Rattle.boxglue_print.specs.declared.output.Output.{Output}
+use Rattle.boxglue_print.specs.Fonts.{BreaksFonts, DefinesFonts, RefusesFonts}
 
 -- The definitions after post, of which none was known before.
 pub defines : (bytes : List ℕ) (front : BeforePages) (units : Units) (old known fonts : List Definition)
@@ -143,13 +141,6 @@ refuses_fonts bytes text accepted fault other text_is accepted_is broken = recor
   text_is = text_is;
   accepted_is = accepted_is;
 }
-
--- The same where memory may be refused for the line.
-pub printed_refusal : (bytes : List ℕ) (fault : DviFault) (r : Result Output AllocError) → BreaksFonts bytes fault → OnOk r (fault ≢ OutOfMemory)
-    → IfOk r (λ output. output.text.items ≡ fault_line fault) → IfOk r (λ output. output.accepted ≡ false)
-    → IfOk r (λ output. AreFontsPrinted bytes output.text.items output.accepted)
-printed_refusal bytes fault (Ok output) broken other text accepted = inr (refuses_fonts bytes output.text.items output.accepted fault other text accepted broken)
-printed_refusal bytes fault (Err e) broken other text accepted = tt
 
 -- The known lines, computed by the definitions.
 pub known_font_lines : KnownFontLines

@@ -67,9 +67,9 @@ IsPainted files bytes options text accepted = Paints files bytes options text ac
 -- The bitmap of a page, from which its text is made; or the text of the file's refusal.
 abbrev pub IsPainting : List NamedBytes → List ℕ → PaintOptionsView → Painting → Type 0
 IsPainting files bytes options (Painted grid) = Paints files bytes options (pbm grid) true
-IsPainting files bytes options (Refusal output) = RefusesFile files bytes output.text.items output.accepted
+IsPainting files bytes options (Refusal text) = RefusesFile files bytes text.items false
 
 -- The bitmap of a page, by its pixels; or the text of the file's refusal.
 abbrev pub IsPageBitmap : List NamedBytes → List ℕ → PaintOptionsView → Painting → Type 0
 IsPageBitmap files bytes options (Painted grid) = ShowsPage files bytes options grid
-IsPageBitmap files bytes options (Refusal output) = RefusesFile files bytes output.text.items output.accepted
+IsPageBitmap files bytes options (Refusal text) = RefusesFile files bytes text.items false

@@ -40,7 +40,13 @@ pub fn fonts_text(alloc: Global, dvi: &[u8]) -> Result<Output, AllocError>
 {
     let defined = match defined_fonts(alloc, dvi) {
         Ok(defined) => defined,
-        Err(fault) => return refusal(alloc, fault),
+        Err(fault) => {
+            let text = refusal(alloc, fault)?;
+            return Ok(Output {
+                text,
+                accepted: false,
+            });
+        }
     };
     let mut text = Vec::new(alloc);
     push_lines(defined.units, &defined.fonts, &mut text)?;

@@ -1,6 +1,6 @@
 //! The text for a DVI file that is refused, and the bitmap of one of its pages.
 
-ghost use Rattle.std.specs.Prelude.{◌≡◌, ◌≢◌, ◌⊎◌, false, Err, IfOk, OnOk};
+ghost use Rattle.std.specs.Prelude.{◌≡◌, ◌≢◌, ◌⊎◌, Err, IfOk, OnOk};
 ghost use Rattle.dvi_ops.specs.File.{AreUnits};
 ghost use Rattle.dvi_ops.specs.View.{units as units_of};
 ghost use Rattle.dvi_scan.specs.View.{marked_page};
@@ -30,7 +30,7 @@ pub struct Output {
 #[derive(Debug, Drop)]
 pub enum Painting {
     Painted(Bitmap),
-    Refusal(Output),
+    Refusal(Vec<u8>),
 }
 
 /// Why nothing is painted.
@@ -53,17 +53,13 @@ impl From<AllocError> for PaintFault {
 }
 
 /// The text for a file that is refused. The result is an Err where memory was refused, here or before.
-pub fn refusal(alloc: Global, fault: DviFault<'_>) -> Result<Output, AllocError>
-    ensures text { IfOk result (λ output. output.text.items ≡ fault_line fault.entry) }
-    ensures refused { IfOk result (λ output. output.accepted ≡ false) }
+pub fn refusal(alloc: Global, fault: DviFault<'_>) -> Result<Vec<u8>, AllocError>
+    ensures text { IfOk result (λ text. text.items ≡ fault_line fault.entry) }
     ensures other { OnOk result (fault.entry ≢ DviFault.OutOfMemory) }
 {
     let mut text = Vec::new(alloc);
     push_fault(fault, &mut text)?;
-    Ok(Output {
-        text,
-        accepted: false,
-    })
+    Ok(text)
 }
 
 /// The bitmap of a page.
@@ -125,7 +121,12 @@ pub fn paint_text(
     let painting = page_bitmap(alloc, dvi, files, options)?;
     let bitmap = match painting {
         Painting::Painted(bitmap) => bitmap,
-        Painting::Refusal(output) => return Ok(output),
+        Painting::Refusal(text) => {
+            return Ok(Output {
+                text,
+                accepted: false,
+            });
+        }
     };
     let mut text = Vec::new(alloc);
     bitmap.write_pbm(&mut text)?;

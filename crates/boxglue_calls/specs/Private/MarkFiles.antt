@@ -15,7 +15,6 @@ use Rattle.tfm_core.specs.FileWidths.{file_widths}
 use Rattle.tfm_core.specs.NamedBytes.{NamedBytes}
 use Rattle.boxglue_print.specs.Faults.{fault_line}
 use Rattle.boxglue_print.specs.Outputs.{RefusesFile}
-use Rattle.boxglue_print.specs.declared.output.Output.{Output}
 use Rattle.boxglue_calls.specs.MarkTables.{HandsOverMarks, MarkOutputs}
 use Rattle.boxglue_calls.specs.declared.mark_table.MarkSizes.{MarkSizes}
 
@@ -38,16 +37,15 @@ pub record IsChecked (files : List NamedBytes) (bytes : List ℕ) (units : Units
   pub space : HasSpaceFor bytes pages
 
 -- The line of a fault, which is not that of memory, is short.
-pub record IsShortRefusal (fault : DviFault) (output : Output) : Type 0 where
+pub record IsShortRefusal (fault : DviFault) (line : List ℕ) : Type 0 where
   pub other : fault ≢ OutOfMemory
-  pub text_is : output.text.items ≡ fault_line fault
-  pub text_short : length output.text.items ≤ 64
-  pub accepted_is : output.accepted ≡ false
+  pub line_is : line ≡ fault_line fault
+  pub short : length line ≤ 64
 
 -- The bytes are refused, and the line is short.
-pub record IsRefusal (files : List NamedBytes) (bytes : List ℕ) (output : Output) : Type 0 where
-  pub refuses : RefusesFile files bytes output.text.items false
-  pub text_short : length output.text.items ≤ 64
+pub record IsRefusal (files : List NamedBytes) (bytes line : List ℕ) : Type 0 where
+  pub refuses : RefusesFile files bytes line false
+  pub short : length line ≤ 64
 
 -- The outputs for a file of this length fit into the buffers that always suffice.
 pub record FitsIn (size : ℕ) (outputs : MarkOutputs) : Type 0 where

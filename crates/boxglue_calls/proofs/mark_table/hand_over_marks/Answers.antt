@@ -1,7 +1,6 @@
 -- The tables of a file that was opened, or the line of its refusal.
-use Rattle.std.proofs.Common.{◌≡◌, ◌∙◌, List, subst}
+use Rattle.std.proofs.Common.{◌≡◌, ◌∙◌, false, List, ℕ, refl, subst, sym}
 use Rattle.tfm_core.specs.NamedBytes.{NamedBytes}
-use Rattle.boxglue_print.specs.Outputs.{RefusesFile}
 use Rattle.boxglue_print.proofs.PrintLemmas.{refuses}
 use Rattle.boxglue_calls.specs.Fonts.{files_of}
 use Rattle.boxglue_calls.specs.MarkTables.{mark_outputs}
@@ -41,14 +40,14 @@ pub returns-clause-handed : goal.returns-clause-handed
 returns-clause-handed c =
     let files = c.deref.result.now in
     let same : files ≡ files_of c.args.fonts.now = c.deref.ensures.value ∙ c.in_ok-files.ensures.copied in
-    let refusal = c.in_ok-output-in-Err.ensures in
-    let output = c.in_ok-output-in-Err.output in
-    let refused : IsRefusal files c.args.dvi.now output =
+    let refusal = c.in_ok-line-in-Err.ensures in
+    let line = c.in_ok-line-in-Err.line.items in
+    let whole : IsRefusal files c.args.dvi.now line =
     record {
-      refuses = subst (λ b. RefusesFile files c.args.dvi.now output.text.items b) refusal.accepted_is
-          (refuses files c.args.dvi.now output.text.items c.in-Err.fault output.accepted refusal.other c.in-Err.ensures.bad c.in-Err.ensures.refused refusal.text_is refusal.accepted_is);
-      text_short = refusal.text_short;
+      refuses = refuses files c.args.dvi.now line c.in-Err.fault false refusal.other c.in-Err.ensures.bad c.in-Err.ensures.refused refusal.line_is refl;
+      short = refusal.short;
     } in
+    let refused = subst (λ (bytes : List ℕ). IsRefusal files c.args.dvi.now bytes) (sym c.deref-in-Err.ensures.value) whole in
     subst
     (λ (fs : List NamedBytes).
     HandsOverFully fs c.args.dvi.now (mark_outputs c.args.pages.now c.args.marks.now c.args.text.now) (mark_outputs c.args.pages.now c.args.marks.now c.hand_over_refusal.new.text)

@@ -8,11 +8,10 @@ pub returns : goal.returns
 returns c =
     let wide = c.place_of.type_inv in
     let bound : c.place_of.result < 2 ^ 64 = omega (arith, wide) in
-    let refusal = c.in_ok-output.ensures in
+    let refusal = c.in_ok-line.ensures in
     record {
       other = refusal.other;
-      text_is = refusal.text;
-      text_short = subst (λ (x : List ℕ). length x ≤ 64) (sym refusal.text)
+      line_is = refusal.text;
+      short = subst (λ (x : List ℕ). length x ≤ 64) (sym refusal.text)
           (line_short c.args.fault (λ bad is. subst (λ (n : ℕ). n < 2 ^ 64) (c.place_of.ensures ∙ ap place_of is) bound));
-      accepted_is = refusal.refused;
     }

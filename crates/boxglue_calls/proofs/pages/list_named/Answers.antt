@@ -1,5 +1,5 @@
 -- The listing of a file that was checked, or the line of its refusal.
-use Rattle.std.proofs.Common.{◌≡◌, ◌∙◌, List, length, refl, subst, true, inl, inr}
+use Rattle.std.proofs.Common.{◌≡◌, ◌∙◌, false, List, ℕ, length, refl, rules, subst, true, inl, inr}
 use Rattle.std.specs.Prelude.{IfOk}
 use Rattle.std.proofs.lemmas.Result.{IfOk-weaker}
 use Rattle.dvi_read.specs.Listing.{listing}
@@ -31,15 +31,16 @@ returns-in-Ok-clause-handed c =
 
 pub returns-clause-handed : goal.returns-clause-handed
 returns-clause-handed c =
-    let refusal = c.in_ok-output-in-Err in
-    let output = refusal.output in
+    let refusal = c.in_ok-line-in-Err in
+    let line = refusal.line.items in
+    let size : c.len.result ≡ length line = search rules in
     let same : c.deref.result.now ≡ files_of c.args.fonts.now = c.deref.ensures.value ∙ c.in_ok-files.ensures.copied in
-    subst (λ (files : List NamedBytes). HandsOverPages (IsListed files c.args.dvi.now) c.args.text.now c.hand_over_output.new.text c.hand_over_output.new.size c.hand_over_output.result) same
+    subst (λ (files : List NamedBytes). HandsOverPages (IsListed files c.args.dvi.now) c.args.text.now c.hand_over.new.buffer c.len.result c.hand_over.result) same
     (record {
-      text = output.text.items;
-      accepted = output.accepted;
-      output = inr (refuses c.deref.result.now c.args.dvi.now output.text.items c.in-Err.fault output.accepted refusal.ensures.other c.in-Err.ensures.bad c.in-Err.ensures.refused
-          refusal.ensures.text refusal.ensures.refused);
-      handed = c.hand_over_output.ensures.handed;
-      size_is = c.hand_over_output.ensures.size;
+      text = line;
+      accepted = false;
+      output = inr (refuses c.deref.result.now c.args.dvi.now line c.in-Err.fault false refusal.ensures.other c.in-Err.ensures.bad c.in-Err.ensures.refused
+          refusal.ensures.text refl);
+      handed = subst (λ (text : List ℕ). HandsOver c.args.text.now c.hand_over.new.buffer text 1 c.hand_over.result) c.deref-in-Err.ensures.value c.hand_over.ensures;
+      size_is = size;
     })

@@ -1,5 +1,5 @@
 -- The line of the refusal, or the pieces of the listing: all of it, or a beginning.
-use Rattle.std.proofs.Common.{true, inl, inr, refl}
+use Rattle.std.proofs.Common.{false, true, inl, inr, refl}
 use Rattle.dvi_read.specs.Listing.{listing}
 use Rattle.boxglue_print.proofs.PrintLemmas.{refuses}
 use Rattle.boxglue_lib.proofs.EndLemmas.{keeps_same}
@@ -8,23 +8,21 @@ use Rattle.boxglue_lib.proofs.printing.list_file.Goals as goal
 pub returns-in_err-write_text-in-Err-clause-unwritten : goal.returns-in_err-write_text-in-Err-clause-unwritten
 returns-in_err-write_text-in-Err-clause-unwritten g c said =
     let refusal = c.in_ok-text-in-Err in
-    let output = refusal.field-0 in
     let front = rw c.deref.ensures.value at c.in_err-write_text-in-Err.ensures.front in (
-      output.text.items,
-      output.accepted,
-      inr (refuses c.args.files.now c.args.dvi.now output.text.items c.in-Err.fault output.accepted refusal.ensures.other c.in-Err.ensures.bad c.in-Err.ensures.refused
-          refusal.ensures.text refusal.ensures.refused),
+      refusal.text.items,
+      false,
+      inr (refuses c.args.files.now c.args.dvi.now refusal.text.items c.in-Err.fault false refusal.ensures.other c.in-Err.ensures.bad c.in-Err.ensures.refused
+          refusal.ensures.text refl),
       front,
     )
 
 pub returns-in-Err-clause-listed : goal.returns-in-Err-clause-listed
 returns-in-Err-clause-listed g c =
     let refusal = c.in_ok-text-in-Err in
-    let output = refusal.field-0 in
     let written = rw c.deref.ensures.value at c.in_ok-write_text-in-Err.ensures.all in (
-      output.text.items,
-      inr (refuses c.args.files.now c.args.dvi.now output.text.items c.in-Err.fault output.accepted refusal.ensures.other c.in-Err.ensures.bad c.in-Err.ensures.refused
-          refusal.ensures.text refusal.ensures.refused),
+      refusal.text.items,
+      inr (refuses c.args.files.now c.args.dvi.now refusal.text.items c.in-Err.fault false refusal.ensures.other c.in-Err.ensures.bad c.in-Err.ensures.refused
+          refusal.ensures.text refl),
       written,
     )
 

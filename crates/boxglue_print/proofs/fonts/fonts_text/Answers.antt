@@ -1,8 +1,8 @@
 -- The lines of the fonts, or the line of the refusal.
-use Rattle.std.proofs.Common.{◌≡◌, inl, map, refl, rules}
+use Rattle.std.proofs.Common.{◌≡◌, false, inl, inr, map, refl, rules}
 use Rattle.dvi_ops.specs.View.{definition, units as units_of}
 use Rattle.boxglue_print.specs.FontLines.{fonts_lines}
-use Rattle.boxglue_print.proofs.FontLemmas.{printed_refusal}
+use Rattle.boxglue_print.proofs.FontLemmas.{refuses_fonts}
 use Rattle.boxglue_print.proofs.fonts.fonts_text.Goals as goal
 
 pub returns : goal.returns
@@ -14,4 +14,4 @@ returns c =
 
 pub returns-in-Err : goal.returns-in-Err
 returns-in-Err c =
-    printed_refusal c.args.dvi.now c.in-Err.fault c.refusal.result c.in-Err.ensures.bad c.refusal.ensures.other c.refusal.ensures.text c.refusal.ensures.refused
+    inr (refuses_fonts c.args.dvi.now _ false c.in-Err.fault c.in_ok-text-in-Err.ensures.other c.in_ok-text-in-Err.ensures.text refl c.in-Err.ensures.bad)

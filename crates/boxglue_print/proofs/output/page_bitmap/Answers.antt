@@ -1,5 +1,5 @@
 -- The line of the refusal, or the page with its units, or no such page.
-use Rattle.std.proofs.Common.{◌≡◌, ◌-◌, Some, ℕ, slice_get, true, ap, inl, sym, ◌∙◌}
+use Rattle.std.proofs.Common.{◌≡◌, ◌-◌, Some, ℕ, slice_get, false, true, ap, inl, refl, sym, ◌∙◌}
 use Rattle.dvi_ops.specs.View.{units as units_of}
 use Rattle.dvi_scan.specs.View.{marked_page}
 use Rattle.raster_core.specs.PixelGrids.{white}
@@ -10,8 +10,8 @@ use Rattle.boxglue_print.proofs.output.page_bitmap.Goals as goal
 
 pub returns-in-Err-clause-ok : goal.returns-in-Err-clause-ok
 returns-in-Err-clause-ok c =
-    refuses c.args.files.now c.args.dvi.now _ c.in-Err.fault _ c.in_ok-refusal-in-Err.ensures.other c.in-Err.ensures.bad c.in-Err.ensures.refused
-    c.in_ok-refusal-in-Err.ensures.text c.in_ok-refusal-in-Err.ensures.refused
+    refuses c.args.files.now c.args.dvi.now _ c.in-Err.fault false c.in_ok-refusal-in-Err.ensures.other c.in-Err.ensures.bad c.in-Err.ensures.refused
+    c.in_ok-refusal-in-Err.ensures.text refl
 
 pub returns-in-Err-clause-pixels : goal.returns-in-Err-clause-pixels
 returns-in-Err-clause-pixels c = returns-in-Err-clause-ok c
