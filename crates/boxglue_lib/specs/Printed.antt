@@ -27,8 +27,8 @@ IsListing contents dvi fonts text fine =
     (bytes : List ℕ) × (files : List NamedBytes) × InputsAreRead contents dvi fonts bytes files × IsListed files bytes text fine
 
 -- The text is the bitmap of a page of the file at a path, or the line of the file's refusal.
-abbrev pub IsPainting : Files → PaintOptionsView → (dvi : List ℕ) → List NamedPath → (text : List ℕ) → (fine : Bool) → Type 0
-IsPainting contents options dvi fonts text fine =
+abbrev pub IsPaintingOfFile : Files → PaintOptionsView → (dvi : List ℕ) → List NamedPath → (text : List ℕ) → (fine : Bool) → Type 0
+IsPaintingOfFile contents options dvi fonts text fine =
     (bytes : List ℕ) × (files : List NamedBytes) × InputsAreRead contents dvi fonts bytes files × IsPainted files bytes options text fine
 
 -- The file at a path has no such page.
@@ -49,7 +49,7 @@ listing_rules contents dvi fonts = record {
 -- page.
 abbrev pub painting_rules : Files → PaintOptionsView → (dvi : List ℕ) → List NamedPath → TaskRules
 painting_rules contents options dvi fonts = record {
-  IsAnswer = IsPainting contents options dvi fonts;
+  IsAnswer = IsPaintingOfFile contents options dvi fonts;
   IsUnread = λ path. IsUnreadDvi contents dvi fonts (Unreadable path);
   LacksPage = HasNoPage contents options dvi fonts;
   LacksMemory = LacksMemoryForDvi contents dvi fonts;
