@@ -20,10 +20,7 @@ fn split_codes(codes: &[u8], count: usize) -> (&[u8], &[u8])
     ensures run { result.0.now ≡ take count codes.now }
     ensures rest { result.1.now ≡ drop count codes.now }
 {
-    match codes.split_at_checked(count) {
-        Some(parts) => parts,
-        None => (codes, &[]),
-    }
+    codes.split_at(count.min(codes.len()))
 }
 
 /// Appends a character whose code is its spelling, where there is space.
