@@ -1,6 +1,6 @@
 -- The best offer of groups that wait has the effect of all their offers.
 use Rattle.std.proofs.Common.{◌≡◌, ◌∙◌, ℕ, zero, suc, ◌+◌, ◌<◌, ◌≤◌, Bool, List, [], ◌∷◌, length, refl, ap, sym, subst, arith, Option, Some}
-use Rattle.std.specs.Prelude.{◌+ℤ◌, ◌<ℤ◌, ◌≤ℤ◌, slice_get}
+use Rattle.std.specs.Prelude.{◌<ℤ◌, ◌≤ℤ◌, slice_get}
 use Rattle.std.proofs.Math.Logic.{◌⊎◌, inl, inr}
 use Rattle.std.proofs.lemmas.Bool.{cases_lt}
 use Rattle.std.proofs.lemmas.Int.{ints}
@@ -12,7 +12,7 @@ use Rattle.break_lines.specs.declared.state.LineCost.{LineCost}
 use Rattle.break_lines.specs.Orders.{NotAfter}
 use Rattle.break_lines.specs.Problems.{Problem, class_index, tie_numbers}
 use Rattle.break_lines.specs.Totals.{entry_with_totals}
-use Rattle.break_lines.specs.Tables.{Entry, compared_numbers, offer, IsOffered, IsRow, IsPut}
+use Rattle.break_lines.specs.Tables.{Entry, compared_numbers, IsOffered, IsRow, IsPut}
 use Rattle.break_lines.proofs.Dictionary.{not_after_refl, not_after_trans}
 use Rattle.break_lines.proofs.Entries.{get_at}
 use Rattle.break_lines.proofs.Rows.{row_best}

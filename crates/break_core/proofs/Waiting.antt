@@ -26,20 +26,16 @@ use Rattle.break_lines.proofs.Looseness.{loosest_part, loosest_fits, loosest_cos
 use Rattle.break_core.specs.declared.pass_rules.StopRule.{StopRule}
 use Rattle.break_core.specs.declared.pass_rules.StopRule.TheVariants.{Never, Overfull, Long}
 use Rattle.break_core.specs.declared.active_list.Live.{Live}
-use Rattle.break_core.specs.declared.row.Offer.{Offer}
-use Rattle.break_core.specs.Private.Offers.{AreOffers}
-use Rattle.break_core.proofs.Offers.{offers_later}
 use Rattle.break_core.specs.Passes.{problem_of}
 use Rattle.break_core.specs.Trials.{is_overfull}
 use Rattle.break_core.specs.Private.LeftOut.{is_long, over_before}
-use Rattle.break_core.specs.Private.Filling.{IsOfferingBest}
 use Rattle.break_core.specs.Private.Active.{stops_after, leaves_out, stops_at, problem_leaving_out, groups_of, AreOver, HasBest, HaveBest, MayStop, IsActive, AreLoosest, AllWait, CostLoosest, CanWait, CanAllWait, AreRising, IsOfferingEach, IsOfferingWaiting, WasTried}
-use Rattle.break_core.proofs.Active.{later_silent, kept_active, row_silent, row_same, row_end, next_active, IsFront}
+use Rattle.break_core.proofs.Active.{later_silent, kept_active, row_silent, row_same, IsFront}
 use Rattle.break_core.proofs.Detours.{first_is, long_means}
 use Rattle.break_core.proofs.Filled.{group_of}
 use Rattle.break_core.proofs.Overfull.{no_offer, overfull_stays}
 use Rattle.break_core.proofs.Long.{over_next}
-use Rattle.break_core.proofs.Lives.{group_at, same_over}
+use Rattle.break_core.proofs.Lives.{same_over}
 
 -- In an even paragraph the lines from all later places are such lines too.
 pub later_loosest :

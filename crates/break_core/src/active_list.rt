@@ -179,8 +179,10 @@ pub(crate) fn remove_stopped(lives: &mut LiveGroups, all: bool)
         lives.first = 0;
         return;
     }
-    let most = (lives.list.len() - lives.first).max(MOST_STOPPED);
-    if lives.first < most {
+    if lives.first < MOST_STOPPED {
+        return;
+    }
+    if lives.first < lives.list.len() - lives.first {
         return;
     }
     remove_groups(&mut lives.list, 0, lives.first);

@@ -10,8 +10,8 @@ ghost use Rattle.break_lines.specs.Sizes.{fits_of_sums, IsSmallLineFits};
 ghost use Rattle.break_lines.specs.SmallCosts.{IsSmallSums, IsSmallLineFit, IsSmallAlone};
 ghost use Rattle.break_core.specs.Private.Filling.{IsKind, IsJudged, IsOf, CanOffer, IsOffering, IsOfferingUnless, IsOfferingBest};
 ghost use Rattle.break_core.specs.Private.Offers.{shown_from, row_at, AreOffers, IsBefore, AreBefore, IsBetter, AreBetter, AreBestFor};
-ghost use Rattle.break_core.specs.Private.Offers.{AreNumbered, IsSameRow, IsLaterOrBetter};
-ghost use Rattle.break_core.specs.Private.Active.{is_limit, live_of, with_live};
+ghost use Rattle.break_core.specs.Private.Offers.{AreNumbered, IsSameRow};
+ghost use Rattle.break_core.specs.Private.Active.{is_limit, live_of, with_live, IsLaterOrBetterFor};
 ghost use Rattle.break_core.specs.Private.Active.{IsLeastOf, HasBest, AreOffersBefore, CanOfferWaiting, IsOfferingEach, IsOfferingWaiting};
 
 use crate::active_list::{Live, LiveGroups, remove_stopped};
@@ -387,17 +387,6 @@ pub(crate) fn offer_line(
     true
 }
 
-/// The better one of two offers. The second one is of a later place, so of two with the same totals it is better.
-#[inline(always)]
-fn later_or_better(held: Offer, next: Offer) -> Offer
-    ensures { IsLaterOrBetter held next result }
-{
-    if replaces(held, next) {
-        return next;
-    }
-    held
-}
-
 /// The best one of the entries of a group before a line of the class with this number.
 #[inline(always)]
 fn best_at(live: &Live, slot: usize) -> Offer
@@ -407,20 +396,33 @@ fn best_at(live: &Live, slot: usize) -> Offer
     live.best[slot]
 }
 
-/// The best one of the entries of these groups before a line of the class with this number.
+/// The one of two groups whose best entry before a line of the class with this number is better. The second group is later, so of two entries with
+/// the same totals its entry is better.
+#[inline(always)]
+fn later_or_better<'a>(held: &'a Live, next: &'a Live, slot: usize) -> &'a Live
+    requires { slot < 4 }
+    ensures { IsLaterOrBetterFor slot held.now next.now result.now }
+{
+    if replaces(best_at(held, slot), best_at(next, slot)) {
+        return next;
+    }
+    held
+}
+
+/// The best one of the entries of these groups before a line of the class with this number. The loop keeps a reference to its
+/// group, so that it does not copy three words for each group.
 #[inline(always)]
 fn best_waiting(lives: &[Live], slot: usize) -> Offer
     requires some { 0 < length lives.now }
     requires slot_bounded { slot < 4 }
     ensures { IsLeastOf lives.now (length lives.now) slot result }
 {
-    let mut best = best_at(&lives[0], slot);
+    let mut best = &lives[0];
     for index in 1..lives.len() {
-        let next = best_at(&lives[index], slot);
-        let better = later_or_better(best, next);
+        let better = later_or_better(best, &lives[index], slot);
         best = better;
     }
-    best
+    best_at(best, slot)
 }
 
 /// Offers the entries of groups that wait by a line, if no lines are counted. All offers are for one state then, so the best one is enough. The

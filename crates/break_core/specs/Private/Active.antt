@@ -1,5 +1,5 @@
 -- The groups of entries from which lines are still tried, and the number of trials (own).
-use Rattle.std.specs.Prelude.{◌≡◌, ◌<◌, ◌≤◌, ◌+◌, ◌-◌, ◌⊎◌, ◌<ℤ◌, ℕ, ℤ, Bool, true, false, ◌||◌, List, [], ◌∷◌}
+use Rattle.std.specs.Prelude.{◌≡◌, ◌<◌, ◌≤◌, ◌+◌, ◌-◌, ◌⊎◌, ℕ, ℤ, Bool, true, false, ◌||◌, List, [], ◌∷◌}
 use Rattle.std.specs.Prelude.{◌++◌, ◌==◌, if◌then◌else◌, length, map}
 use Rattle.std.specs.Prelude.{pos, int_lt, drop, slice_get, Option, Some, None}
 use Rattle.node_core.specs.declared.params.Params.{Params}
@@ -28,7 +28,7 @@ use Rattle.break_core.specs.Trials.{is_overfull, IsStop, places_up_to, passes_ru
 use Rattle.break_core.specs.Private.LeftOut.{is_long, over_before, MayLeaveOut}
 use Rattle.break_core.specs.Private.Filling.{IsOf}
 use Rattle.break_core.specs.declared.row.Offer.{Offer}
-use Rattle.break_core.specs.Private.Offers.{AreOffers, AreBestFor, IsAtMost, IsBelow}
+use Rattle.break_core.specs.Private.Offers.{AreOffers, AreBestFor, IsAtMost, IsBelow, IsLaterOrBetter}
 
 -- Whether trying lines from a place stops after a line from there, which is overfull or not, and long or not.
 abbrev pub stops_after : StopRule → (overfull long : Bool) → Bool
@@ -181,6 +181,16 @@ AreRising lives =
 -- These offers are of entries of earlier places than that of group number k.
 abbrev pub AreOffersBefore : (table : List Entry) → List Live → (k : ℕ) → List Offer → Type 0
 AreOffersBefore table lives k offers = (live : Live) → slice_get lives k ≡ Some live → AreOffers table live.group.place offers
+
+-- The one of two groups whose best offer before a line of the class with this number is better; the second one is later.
+pub record IsLaterOrBetterFor (slot : ℕ) (held next r : Live) : Type 0 where
+  pub before : Offer
+  pub after : Offer
+  pub best : Offer
+  pub held_best : slice_get held.best slot ≡ Some before
+  pub next_best : slice_get next.best slot ≡ Some after
+  pub is : slice_get r.best slot ≡ Some best
+  pub better : IsLaterOrBetter before after best
 
 -- The best offer of the first n of these groups before a line of the class with this number; of two with the same totals the later one is better.
 pub record IsLeastOf (lives : List Live) (n slot : ℕ) (best : Offer) : Type 0 where

@@ -7,7 +7,7 @@ use Rattle.break_core.specs.declared.row.Row.{Row}
 use Rattle.break_core.specs.Private.Active.{IsLeastOf, IsOfferingEach}
 use Rattle.break_core.specs.Private.Offers.{row_at, shown_from}
 use Rattle.break_core.proofs.BestEntries.{offer_by, offer_stands}
-use Rattle.break_core.proofs.Offers.{offers_later, offers_put, row_uncounted}
+use Rattle.break_core.proofs.Offers.{offers_put, row_uncounted}
 use Rattle.break_core.proofs.Suffix.{waiting_offered, rising_from, stands_later}
 use Rattle.break_core.proofs.offering.offer_each_waiting.Goals as goal
 
