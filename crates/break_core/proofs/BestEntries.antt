@@ -1,8 +1,8 @@
 -- The entries of a group that make the best offers, known by their totals.
-use Rattle.std.proofs.Common.{◌≡◌, ◌∙◌, ℕ, zero, suc, ◌+◌, ◌<◌, ◌≤◌, ◌++◌, true, false, min, List, [], ◌∷◌, length, length-append, refl, ap, sym, subst, arith, Option, Some}
+use Rattle.std.proofs.Common.{◌≡◌, ◌≢◌, ◌∙◌, ℕ, set, zero, suc, ◌+◌, ◌<◌, ◌≤◌, ◌++◌, true, false, min, List, [], ◌∷◌, length, length-append, refl, ap, sym, subst, arith, Option, Some}
 use Rattle.std.specs.Prelude.{ℤ, ◌+ℤ◌, nat_lt, slice_get}
 use Rattle.std.proofs.Math.Logic.{◌⊎◌, inl, inr}
-use Rattle.std.proofs.lemmas.Bool.{cases_Bool}
+use Rattle.std.proofs.lemmas.Bool.{cases_Bool, cases_eq}
 use Rattle.std.proofs.lemmas.Int.{ints}
 use Rattle.std.proofs.lemmas.Option.{same_Some, slice_get_within}
 use Rattle.node_core.specs.declared.params.Params.{Params}
@@ -18,13 +18,13 @@ use Rattle.break_lines.specs.SmallCosts.{IsSmallAlone}
 use Rattle.break_lines.specs.Tables.{Entry, compared_numbers, IsPut}
 use Rattle.break_lines.specs.Totals.{Within, AreSmallTotals, entry_with_totals}
 use Rattle.break_lines.proofs.Dictionary.{state_same, rank_few, not_after_refl, not_after_trans}
-use Rattle.break_lines.proofs.Entries.{get_at, get_left}
+use Rattle.break_lines.proofs.Entries.{get_at, get_left, get-set_same, get-set_other}
 use Rattle.break_core.specs.declared.active_list.Live.{Live}
 use Rattle.break_core.specs.declared.row.Offer.{Offer}
 use Rattle.break_core.specs.declared.row.Row.{Row}
 use Rattle.break_core.specs.Private.Active.{HaveBest}
 use Rattle.break_core.specs.Private.Filling.{IsOf, IsBestOffer, IsOfferingBest, offer_from}
-use Rattle.break_core.specs.Private.Offers.{no_entry, totals_of, shown_from, row_at, IsOffer, offer_numbers, offer_before, IsBestFor, AreBestFor, IsBefore, AreBefore, IsBetter, AreBetter, AreNumbered}
+use Rattle.break_core.specs.Private.Offers.{no_entry, totals_of, shown_from, row_at, IsOffer, offer_numbers, offer_before, IsBestFor, AreBestFor, IsBefore, AreBefore, IsBetter, AreBetter, AreNumbered, IsPutBetter}
 use Rattle.break_core.proofs.Active.{shorter}
 use Rattle.break_core.proofs.BestOffers.{best_offered}
 use Rattle.break_core.proofs.Offers.{shown_ordered}
@@ -106,20 +106,26 @@ better_one :
 better_one table x y z u v w is_x is_y is_z is =
     subst (λ o. IsBetter table o v w) is_x (subst (λ o. IsBetter table x o w) is_y (subst (IsBetter table x y) is_z is))
 
-pub better_four :
-    (table : List Entry) (xs ys : List Offer) (a0 a1 a2 a3 b0 b1 b2 b3 r0 r1 r2 r3 : Offer)
-    → slice_get xs 0 ≡ Some a0 → slice_get xs 1 ≡ Some a1 → slice_get xs 2 ≡ Some a2 → slice_get xs 3 ≡ Some a3
+put_one :
+    (table : List Entry) (slot : ℕ) (other : Offer) (before after xs new : List Offer)
+    → slice_get before slot ≡ slice_get xs slot → slice_get new slot ≡ slice_get after slot → IsPutBetter table slot other before after
+    → (x y z : Offer) → slice_get xs slot ≡ Some x → other ≡ y → slice_get new slot ≡ Some z → IsBetter table x y z
+put_one table slot other before after xs new same kept put x y z at_x is_y at_z =
+    better_one table put.held other put.kept x y z (same_Some put.held x (sym put.was ∙ same ∙ at_x)) is_y
+    (same_Some put.kept z (sym put.is ∙ sym kept ∙ at_z)) put.better
+
+pub put_four :
+    (table : List Entry) (v0 v1 v2 v3 v4 ys : List Offer) (b0 b1 b2 b3 : Offer)
     → slice_get ys 0 ≡ Some b0 → slice_get ys 1 ≡ Some b1 → slice_get ys 2 ≡ Some b2 → slice_get ys 3 ≡ Some b3
-    → IsBetter table a0 b0 r0 → IsBetter table a1 b1 r1 → IsBetter table a2 b2 r2 → IsBetter table a3 b3 r3
-    → AreBetter table xs ys (r0 ∷ r1 ∷ r2 ∷ r3 ∷ [])
-better_four table xs ys a0 a1 a2 a3 b0 b1 b2 b3 r0 r1 r2 r3 p0 p1 p2 p3 q0 q1 q2 q3 i0 i1 i2 i3 VeryLoose x y z at_x at_y at_z =
-    better_one table a0 b0 r0 x y z (same_Some a0 x (sym p0 ∙ at_x)) (same_Some b0 y (sym q0 ∙ at_y)) (same_Some r0 z at_z) i0
-better_four table xs ys a0 a1 a2 a3 b0 b1 b2 b3 r0 r1 r2 r3 p0 p1 p2 p3 q0 q1 q2 q3 i0 i1 i2 i3 Loose x y z at_x at_y at_z =
-    better_one table a1 b1 r1 x y z (same_Some a1 x (sym p1 ∙ at_x)) (same_Some b1 y (sym q1 ∙ at_y)) (same_Some r1 z at_z) i1
-better_four table xs ys a0 a1 a2 a3 b0 b1 b2 b3 r0 r1 r2 r3 p0 p1 p2 p3 q0 q1 q2 q3 i0 i1 i2 i3 Decent x y z at_x at_y at_z =
-    better_one table a2 b2 r2 x y z (same_Some a2 x (sym p2 ∙ at_x)) (same_Some b2 y (sym q2 ∙ at_y)) (same_Some r2 z at_z) i2
-better_four table xs ys a0 a1 a2 a3 b0 b1 b2 b3 r0 r1 r2 r3 p0 p1 p2 p3 q0 q1 q2 q3 i0 i1 i2 i3 Tight x y z at_x at_y at_z =
-    better_one table a3 b3 r3 x y z (same_Some a3 x (sym p3 ∙ at_x)) (same_Some b3 y (sym q3 ∙ at_y)) (same_Some r3 z at_z) i3
+    → IsPutBetter table 0 b0 v0 v1 → IsPutBetter table 1 b1 v1 v2 → IsPutBetter table 2 b2 v2 v3 → IsPutBetter table 3 b3 v3 v4 → AreBetter table v0 ys v4
+put_four table v0 v1 v2 v3 v4 ys b0 b1 b2 b3 q0 q1 q2 q3 p0 p1 p2 p3 VeryLoose x y z at_x at_y at_z =
+    put_one table 0 b0 v0 v1 v0 v4 refl (p3.rest 0 (λ no. cc) ∙ p2.rest 0 (λ no. cc) ∙ p1.rest 0 (λ no. cc)) p0 x y z at_x (same_Some b0 y (sym q0 ∙ at_y)) at_z
+put_four table v0 v1 v2 v3 v4 ys b0 b1 b2 b3 q0 q1 q2 q3 p0 p1 p2 p3 Loose x y z at_x at_y at_z =
+    put_one table 1 b1 v1 v2 v0 v4 (p0.rest 1 (λ no. cc)) (p3.rest 1 (λ no. cc) ∙ p2.rest 1 (λ no. cc)) p1 x y z at_x (same_Some b1 y (sym q1 ∙ at_y)) at_z
+put_four table v0 v1 v2 v3 v4 ys b0 b1 b2 b3 q0 q1 q2 q3 p0 p1 p2 p3 Decent x y z at_x at_y at_z =
+    put_one table 2 b2 v2 v3 v0 v4 (p1.rest 2 (λ no. cc) ∙ p0.rest 2 (λ no. cc)) (p3.rest 2 (λ no. cc)) p2 x y z at_x (same_Some b2 y (sym q2 ∙ at_y)) at_z
+put_four table v0 v1 v2 v3 v4 ys b0 b1 b2 b3 q0 q1 q2 q3 p0 p1 p2 p3 Tight x y z at_x at_y at_z =
+    put_one table 3 b3 v3 v4 v0 v4 (p2.rest 3 (λ no. cc) ∙ p1.rest 3 (λ no. cc) ∙ p0.rest 3 (λ no. cc)) refl p3 x y z at_x (same_Some b3 y (sym q3 ∙ at_y)) at_z
 
 -- Numbers of entries.
 pub numbered_before :
@@ -131,6 +137,26 @@ numbered_before table params e index offers are within class o at =
 pub numbered_best :
     (table : List Entry) (params : Params) (from to : ℕ) (best : List Offer) → AreBestFor table params from to best → AreNumbered table best
 numbered_best table params from to best are class o at = let is = are class o at in omega (arith, is.high, is.within)
+
+pub numbered_slot :
+    (table : List Entry) (offers : List Offer) (slot : ℕ) (o : Offer)
+    → slot < 4 → AreNumbered table offers → slice_get offers slot ≡ Some o → o.index < length table
+numbered_slot table offers zero o few are at = are VeryLoose o at
+numbered_slot table offers (suc zero) o few are at = are Loose o at
+numbered_slot table offers (suc (suc zero)) o few are at = are Decent o at
+numbered_slot table offers (suc (suc (suc zero))) o few are at = are Tight o at
+numbered_slot table offers (suc (suc (suc (suc n)))) o few are at = absurd (omega (arith, few))
+
+pub numbered_set :
+    (table : List Entry) (offers : List Offer) (slot : ℕ) (held other : Offer)
+    → slice_get offers slot ≡ Some held → AreNumbered table offers → other.index < length table → AreNumbered table (set offers slot other)
+numbered_set table offers slot held other was are within class o at = which (cases_eq (class_index class) slot)
+  where
+    which : (class_index class ≡ slot) ⊎ (class_index class ≢ slot) → o.index < length table
+    which (inl same) =
+        let is : other ≡ o = same_Some other o (sym (get-set_same offers slot other held was) ∙ ap (slice_get (set offers slot other)) (sym same) ∙ at) in
+        subst (λ (x : Offer). x.index < length table) is within
+    which (inr apart) = are class o (sym (get-set_other offers slot (class_index class) other apart) ∙ at)
 
 -- The first entry is the best one alone.
 pub best_first :

@@ -1,11 +1,11 @@
 -- Groups, and the values that are stored with them.
-use Rattle.std.proofs.Common.{◌≡◌, ◌∙◌, ℕ, zero, suc, ◌+◌, ◌<◌, ◌≤◌, take, drop, Bool, true, false, cond, List, [], ◌∷◌, ◌++◌, length, length-append, refl, ap, sym, subst, arith, Option, Some, None}
+use Rattle.std.proofs.Common.{◌≡◌, ◌∙◌, ℕ, zero, suc, ◌+◌, ◌<◌, ◌≤◌, take, drop, set, get_or, Bool, true, false, cond, List, [], ◌∷◌, ◌++◌, length, length-append, refl, ap, sym, subst, arith, Option, Some, None}
 use Rattle.std.specs.Prelude.{ℤ, slice_get, ◌==◌}
 use Rattle.std.specs.Option.{option_map}
 use Rattle.std.proofs.Math.Logic.{◌⊎◌, inl, inr}
 use Rattle.std.proofs.lemmas.Bool.{cases_Bool, cond-true, cond-false}
 use Rattle.std.proofs.lemmas.List.{map-append, length-take-le, length-drop, take_all, drop_all, drop-append-le}
-use Rattle.std.proofs.Math.Seq.{take-append_seam}
+use Rattle.std.proofs.Math.Seq.{get_or-append_seam, set-append_seam, take-append_seam}
 use Rattle.std.proofs.lemmas.Option.{same_Some, slice_get-map}
 use Rattle.node_core.specs.declared.params.Params.{Params}
 use Rattle.break_lines.specs.Problems.{Problem}
@@ -36,6 +36,21 @@ pub groups_kept :
     → new ≡ cond stopped lives (lives ++ live ∷ []) → groups_of new ≡ cond stopped (groups_of lives) (groups_of lives ++ live.group ∷ [])
 groups_kept true lives new live made = ap groups_of made
 groups_kept false lives new live made = ap groups_of made ∙ map-append (λ (x : Live). x.group) lives (live ∷ [])
+
+-- A group that was appended is the last one, and may be replaced.
+pub last_pushed :
+    (items new : List Live) (n : ℕ) (live found : Live) → new ≡ items ++ live ∷ [] → n ≡ length items → found ≡ get_or new n found → found ≡ live
+last_pushed items new n live found made number is =
+    is ∙ ap (λ xs. get_or xs n found) made ∙ ap (λ k. get_or (items ++ live ∷ []) k found) number ∙ get_or-append_seam items live [] found
+
+pub last_replaced :
+    (items new : List Live) (first n : ℕ) (old live : Live)
+    → new ≡ items ++ old ∷ [] → n ≡ length items → first ≤ length items → drop first (set new n live) ≡ drop first items ++ live ∷ []
+last_replaced items new first n old live made number within =
+    ap (λ xs. drop first (set xs n live)) made
+    ∙ ap (λ k. drop first (set (items ++ old ∷ []) k live)) number
+    ∙ ap (drop first) (set-append_seam items old [] live)
+    ∙ drop-append-le first items (live ∷ []) within
 
 -- What holds of all groups of a list, and of one more.
 all_kept :

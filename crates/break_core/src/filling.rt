@@ -17,7 +17,7 @@ use crate::active_list::{LiveGroups, keep_group, keep_over_after, remove_groups,
 use crate::counted::try_counted_lines;
 use crate::neighbours::{Neighbours, keep_neighbours};
 use crate::offering::{
-    TriedPlace, add_entries, all_wait, either, is_overfull, judge, new_live, offer_line,
+    TriedPlace, add_entries, all_wait, either, first_live, is_overfull, judge, offer_line,
     offer_waiting,
 };
 use crate::pass_rules::Rules;
@@ -77,7 +77,8 @@ fn try_lines<M: Meter>(meter: &mut M, at: TriedPlace, lives: &mut LiveGroups, ro
     ensures held { at.entry.rules.now.params.now.first_lines ≡ 0 → AreOffers at.entry.table.now at.entry.place row.new.offers }
     ensures live { is_forced ((M.facts meter.old).penalty at.entry.place) ≡ false →
         IsActive (problem_leaving_out (M.facts meter.old) at.entry.rules.now.params.now at.entry.rules.now.bound at.entry.rules.now.stop_rule)
-        (stops_at (M.facts meter.old) at.entry.rules.now.params.now at.entry.rules.now.stop_rule) at.entry.table.now (at.entry.place + 1) at.entry.place 0 0
+        (stops_at (M.facts meter.old) at.entry.rules.now.params.now at.entry.rules.now.stop_rule) at.entry.table.now
+        (at.entry.place + 1) at.entry.place 0 0
         (groups_of (live_of lives.new)) }
     ensures over { AreOver (M.facts meter.old) at.entry.rules.now.params.now (at.entry.place + 1) (live_of lives.new) }
     ensures best { HaveBest at.entry.table.now at.entry.rules.now.params.now (live_of lives.new) }
@@ -149,7 +150,8 @@ fn try_each_line<M: Meter, const COUNTED: bool>(
     ensures held { at.entry.rules.now.params.now.first_lines ≡ 0 → AreOffers at.entry.table.now at.entry.place row.new.offers }
     ensures live { is_forced ((M.facts meter.old).penalty at.entry.place) ≡ false →
         IsActive (problem_leaving_out (M.facts meter.old) at.entry.rules.now.params.now at.entry.rules.now.bound at.entry.rules.now.stop_rule)
-        (stops_at (M.facts meter.old) at.entry.rules.now.params.now at.entry.rules.now.stop_rule) at.entry.table.now (at.entry.place + 1) at.entry.place 0 0
+        (stops_at (M.facts meter.old) at.entry.rules.now.params.now at.entry.rules.now.stop_rule) at.entry.table.now
+        (at.entry.place + 1) at.entry.place 0 0
         (groups_of (live_of lives.new)) }
     ensures over { AreOver (M.facts meter.old) at.entry.rules.now.params.now (at.entry.place + 1) (live_of lives.new) }
     ensures best { HaveBest at.entry.table.now at.entry.rules.now.params.now (live_of lives.new) }
@@ -291,7 +293,7 @@ fn fill_places<M: Meter, const COUNTED: bool>(
         start: 0,
         end: 1,
     };
-    let live = new_live::<COUNTED>(&reached.table, group, rules.params);
+    let live = first_live::<COUNTED>(&reached.table, group, rules.params);
     reached.live.list.push(live)?;
     // The row is reused for all places.
     let mut row = new_row(alloc, rules.params.first_lines.get())?;

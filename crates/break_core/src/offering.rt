@@ -10,7 +10,7 @@ ghost use Rattle.break_lines.specs.Sizes.{fits_of_sums, IsSmallLineFits};
 ghost use Rattle.break_lines.specs.SmallCosts.{IsSmallSums, IsSmallLineFit, IsSmallAlone};
 ghost use Rattle.break_core.specs.Private.Filling.{IsKind, IsJudged, IsOf, CanOffer, IsOffering, IsOfferingUnless, IsOfferingBest};
 ghost use Rattle.break_core.specs.Private.Offers.{shown_from, row_at, AreOffers, IsBefore, AreBefore, IsBetter, AreBetter, AreBestFor};
-ghost use Rattle.break_core.specs.Private.Offers.{AreNumbered, IsSameRow};
+ghost use Rattle.break_core.specs.Private.Offers.{AreNumbered, IsPutBetter, IsSameRow};
 ghost use Rattle.break_core.specs.Private.Active.{is_limit, live_of, with_live, IsLaterOrBetterFor};
 ghost use Rattle.break_core.specs.Private.Active.{IsLeastOf, HasBest, AreOffersBefore, CanOfferWaiting, IsOfferingEach, IsOfferingWaiting};
 
@@ -119,71 +119,84 @@ fn offers_before(entry: Entry, index: usize, params: &Params) -> [Offer; 4]
     }
 }
 
-/// The better one of two offers.
+/// Puts an offer for the class with this number into these offers, unless they have one that is as good or better.
 #[inline(always)]
-fn better(table: &[Entry], a: Offer, b: Offer) -> Offer
-    requires a_bounded { a.index < length table.now }
-    requires b_bounded { b.index < length table.now }
-    ensures { IsBetter table.now a b result }
+fn put_better(best: &mut [Offer; 4], table: &[Entry], slot: usize, other: Offer)
+    requires slot_bounded { slot < 4 }
+    requires best_bounded { AreNumbered table.now best.old }
+    requires other_bounded { other.index < length table.now }
+    ensures put { IsPutBetter table.now slot other best.old best.new }
+    ensures best_bounded { AreNumbered table.now best.new }
 {
-    if is_as_good(table, a, b) {
-        return a;
+    if is_as_good(table, best[slot], other) {
+        return;
     }
-    b
+    best[slot] = other;
 }
 
-/// The better ones of two offers for each class.
+/// Puts the offers of another entry into these offers, where they are better.
 #[inline(always)]
-fn better_each(table: &[Entry], a: [Offer; 4], b: [Offer; 4]) -> [Offer; 4]
-    requires a_bounded { AreNumbered table.now a }
-    requires b_bounded { AreNumbered table.now b }
-    ensures { AreBetter table.now a b result }
+fn put_better_each(best: &mut [Offer; 4], table: &[Entry], others: [Offer; 4])
+    requires best_bounded { AreNumbered table.now best.old }
+    requires others_bounded { AreNumbered table.now others }
+    ensures { AreBetter table.now best.old others best.new }
 {
-    [
-        better(table, a[0], b[0]),
-        better(table, a[1], b[1]),
-        better(table, a[2], b[2]),
-        better(table, a[3], b[3]),
-    ]
+    put_better(best, table, 0, others[0]);
+    put_better(best, table, 1, others[1]);
+    put_better(best, table, 2, others[2]);
+    put_better(best, table, 3, others[3]);
 }
 
-/// The entries of a group that make the best offers, by the class of the line, if no lines are counted.
+/// Puts the offers of all entries of a group but the first into those of the first, where they are better.
 #[inline(always)]
-fn best_of(table: &[Entry], group: ActiveGroup, params: &Params) -> [Offer; 4]
+fn put_rest(best: &mut [Offer; 4], table: &[Entry], group: ActiveGroup, params: &Params)
     requires has_entries { group.start < group.end }
     requires group_bounded { group.end ≤ length table.now }
-    ensures { AreBestFor table.now params.now group.start group.end result }
+    requires first { AreBestFor table.now params.now group.start (group.start + 1) best.old }
+    ensures { AreBestFor table.now params.now group.start group.end best.new }
 {
-    let mut best = offers_before(table[group.start], group.start, params);
     for index in group.start + 1..group.end {
         let others = offers_before(table[index], index, params);
-        let better = better_each(table, best, others);
-        best = better;
+        put_better_each(best, table, others);
     }
-    best
 }
 
-/// The entries of a group that make the best offers, if no lines are counted; else nothing is known of the offers.
+/// Makes the offers of the first entry of a group those of all its entries, if no lines are counted.
 #[inline(always)]
-fn best_offers<const COUNTED: bool>(
+fn complete_offers<const COUNTED: bool>(
+    best: &mut [Offer; 4],
     table: &[Entry],
     group: ActiveGroup,
     params: &Params,
-) -> [Offer; 4]
+)
     requires kind { IsKind COUNTED params.now.first_lines }
     requires has_entries { group.start < group.end }
     requires group_bounded { group.end ≤ length table.now }
-    ensures { params.now.first_lines ≡ 0 → AreBestFor table.now params.now group.start group.end result }
+    requires first { params.now.first_lines ≡ 0 → AreBestFor table.now params.now group.start (group.start + 1) best.old }
+    ensures { params.now.first_lines ≡ 0 → AreBestFor table.now params.now group.start group.end best.new }
+{
+    if COUNTED {
+        return;
+    }
+    put_rest(best, table, group, params);
+}
+
+/// The offers of the first entry of a group, if no lines are counted; else nothing is known of the offers.
+#[inline(always)]
+fn first_offers<const COUNTED: bool>(table: &[Entry], start: usize, params: &Params) -> [Offer; 4]
+    requires kind { IsKind COUNTED params.now.first_lines }
+    requires start_bounded { start < length table.now }
+    ensures { params.now.first_lines ≡ 0 → AreBestFor table.now params.now start (start + 1) result }
 {
     if COUNTED {
         return [Offer::NONE; 4];
     }
-    best_of(table, group, params)
+    offers_before(table[start], start, params)
 }
 
-/// A group from which no line has been tried yet.
+/// A group from which no line has been tried yet, with the offers of its first entry.
 #[inline(always)]
-pub(crate) fn new_live<const COUNTED: bool>(
+pub(crate) fn first_live<const COUNTED: bool>(
     table: &[Entry],
     group: ActiveGroup,
     params: &Params,
@@ -193,17 +206,18 @@ pub(crate) fn new_live<const COUNTED: bool>(
     requires group_bounded { group.end ≤ length table.now }
     ensures group { result.group ≡ group }
     ensures over { result.over ≡ None }
-    ensures best { HasBest table.now params.now result }
+    ensures first { params.now.first_lines ≡ 0 → AreBestFor table.now params.now group.start (group.start + 1) result.best }
 {
     Live {
         group,
         over: None,
-        best: best_offers::<COUNTED>(table, group, params),
+        best: first_offers::<COUNTED>(table, group.start, params),
     }
 }
 
 /// Appends the group of a place to those of earlier places, unless it has no entries. If a break at the place is forced, the earlier groups are
-/// removed first. What is known of the entries of a group is computed only if there are some.
+/// removed first. What is known of the entries of a group is computed only if there are some, and in its place in the list, since the registers do
+/// not hold four offers.
 #[inline(always)]
 pub(crate) fn add_entries<const COUNTED: bool>(
     lives: &mut LiveGroups,
@@ -225,8 +239,10 @@ pub(crate) fn add_entries<const COUNTED: bool>(
     if group.start == group.end {
         return Ok(());
     }
-    let live = new_live::<COUNTED>(table, group, params);
+    let live = first_live::<COUNTED>(table, group, params);
+    let number = lives.list.len();
     lives.list.push(live)?;
+    complete_offers::<COUNTED>(&mut lives.list[number].best, table, group, params);
     Ok(())
 }
 

@@ -6,7 +6,8 @@ ghost use Rattle.break_lines.specs.Orders.{NotAfter};
 ghost use Rattle.break_lines.specs.Problems.{class_index, max_places, tie_numbers};
 ghost use Rattle.break_lines.specs.Tables.{Entry, slots, row_entries, IsPut};
 ghost use Rattle.break_lines.specs.Totals.{entry_with_totals};
-ghost use Rattle.break_core.specs.Private.Offers.{no_entry, no_offer, totals_of, shown_offer, shown_from, row_at, IsOffer, AreOffers, IsAsGood, IsEmpty};
+ghost use Rattle.break_core.specs.Private.Offers.{no_entry, no_offer, totals_of, shown_offer, shown_from};
+ghost use Rattle.break_core.specs.Private.Offers.{row_at, IsOffer, AreOffers, IsAsGood, IsEmpty};
 ghost use Rattle.break_core.specs.Private.Offers.{IsAtMost, IsBelow};
 
 use break_lines::{Entry, Fitness, LineCost, empty_row, flush_row, order};

@@ -1,5 +1,5 @@
 -- Offers without their entries, if no lines are counted: totals, and the number of the entry before the last line (own).
-use Rattle.std.specs.Prelude.{◌≡◌, ◌<◌, ◌≤◌, ◌⊎◌, ◌==◌, ℕ, zero, suc, ℤ, pos, List, replicate, [], ◌∷◌, length, slice_get, Option, Some, None}
+use Rattle.std.specs.Prelude.{◌≡◌, ◌≢◌, ◌<◌, ◌≤◌, ◌⊎◌, ◌==◌, ℕ, zero, suc, ℤ, pos, List, replicate, [], ◌∷◌, length, slice_get, Option, Some, None}
 use Rattle.std.specs.Prelude.{◌<ℤ◌, ◌≤ℤ◌, if◌then◌else◌}
 use Rattle.node_core.specs.declared.params.Params.{Params}
 use Rattle.break_lines.specs.declared.state.Fitness.{Fitness}
@@ -134,6 +134,15 @@ AreBetter table a b r =
     (class : Fitness) (x y z : Offer)
     → slice_get a (class_index class) ≡ Some x → slice_get b (class_index class) ≡ Some y → slice_get r (class_index class) ≡ Some z
     → IsBetter table x y z
+
+-- The step from some offers to others: the one with this number is the better one of it and another offer.
+pub record IsPutBetter (table : List Entry) (slot : ℕ) (other : Offer) (old new : List Offer) : Type 0 where
+  pub held : Offer
+  pub kept : Offer
+  pub was : slice_get old slot ≡ Some held
+  pub is : slice_get new slot ≡ Some kept
+  pub better : IsBetter table held other kept
+  pub rest : (k : ℕ) → k ≢ slot → slice_get new k ≡ slice_get old k
 
 -- The numbers of offers for each class are numbers of entries.
 abbrev pub AreNumbered : (table : List Entry) → List Offer → Type 0

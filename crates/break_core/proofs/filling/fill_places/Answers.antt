@@ -3,7 +3,7 @@ use Rattle.break_lines.specs.Tables.{first_entry, IsTable}
 use Rattle.break_lines.specs.declared.group.ActiveGroup.{ActiveGroup}
 use Rattle.break_core.specs.Private.Active.{stops_at, problem_leaving_out, groups_of, live_of, AreOver, HasBest, IsFilled, IsSwept}
 use Rattle.break_core.specs.Private.Near.{HaveNeighbours}
-use Rattle.break_core.specs.Private.Offers.{IsEmpty}
+use Rattle.break_core.specs.Private.Offers.{IsEmpty, AreBestFor}
 use Rattle.break_core.proofs.Active.{table_rest}
 use Rattle.break_core.proofs.Counts.{counted_none, counted_more, counted_longer, kept_none, kept_on, started_more, started_none, start_group}
 use Rattle.break_core.proofs.Lives.{filled_start, over_first, best_kept}
@@ -15,18 +15,20 @@ loop-before-init g c =
     let params = c.args.rules.now.params.now in
     let rule = c.args.rules.now.stop_rule in
     let stop = stops_at f params rule in
-    let live = c.new_live-live.result in
-    let group : live.group ≡ start_group = c.new_live-live.ensures.group in
+    let live = c.first_live-live.result in
+    let group : live.group ≡ start_group = c.first_live-live.ensures.group in
     let table : c.push.new.self.items ≡ first_entry ∷ [] = search rules in
     let lives : c.push-2.new.self.items ≡ live ∷ [] = search rules in
     let near : c.new.result.items ≡ [] = search rules in
-    let best : HasBest c.push.new.self.items params live = subst (λ t. HasBest t params live) c.deref.ensures.value c.new_live-live.ensures.best in
+    let best : HasBest c.push.new.self.items params live = λ none.
+    subst (λ (x : ActiveGroup). AreBestFor c.push.new.self.items params x.start x.end live.best) (sym group)
+    (subst (λ t. AreBestFor t params 0 1 live.best) c.deref.ensures.value (c.first_live-live.ensures.first none)) in
     record {
       facts = refl;
       counted = counted_none stop (g.M.Meter.trials c.args.meter.now);
       filled = filled_start (problem_leaving_out f params c.args.rules.now.bound rule) stop c.push.new.self.items c.push-2.new.self.items live table lives
           (ap (λ (x : ActiveGroup). x.place) group) (ap (λ (x : ActiveGroup). x.start) group) (ap (λ (x : ActiveGroup). x.end) group);
-      over = subst (AreOver f params 1) (sym lives) (over_first f params live (ap (λ (x : ActiveGroup). x.place) group) c.new_live-live.ensures.over);
+      over = subst (AreOver f params 1) (sym lives) (over_first f params live (ap (λ (x : ActiveGroup). x.place) group) c.first_live-live.ensures.over);
       first_bounded = omega arith;
       known = subst (HaveNeighbours c.push.new.self.items) (sym near) (λ k x there. absurd (cc));
       best = best_kept c.push.new.self.items params false [] c.push-2.new.self.items live (λ k x there. absurd (cc)) best lives;
@@ -90,8 +92,8 @@ returns-then-is_empty-clause-tried g c =
     let none : groups_of (live_of live) ≡ [] = ap groups_of (c.is_empty.ensures c.if-is_empty.true) in
     started_none c.loop-before.before (groups_of (live_of live)) (g.M.Meter.trials c.args.meter.now) (g.M.Meter.trials c.loop-before.meter) none inv.begins inv.started
 
-pub new_live-live-requires-clause-group_bounded : goal.new_live-live-requires-clause-group_bounded
-new_live-live-requires-clause-group_bounded g c =
+pub first_live-live-requires-clause-group_bounded : goal.first_live-live-requires-clause-group_bounded
+first_live-live-requires-clause-group_bounded g c =
     let table : c.push.new.self.items ≡ first_entry ∷ [] = search rules in
     omega (arith, ap length (c.deref.ensures.value ∙ table))
 

@@ -1,29 +1,18 @@
 use Rattle.std.proofs.Common.{◌≡◌, ◌+◌, ◌≤◌, ◌<◌, length, refl, rules, subst, arith}
 use Rattle.std.proofs.lemmas.Option.{slice_get_read}
 use Rattle.break_core.specs.Private.Offers.{no_entry, AreBestFor}
-use Rattle.break_core.proofs.BestEntries.{best_first, best_more, numbered_before, numbered_best}
-use Rattle.break_core.proofs.offering.best_of.Goals as goal
+use Rattle.break_core.proofs.BestEntries.{best_more, numbered_before, numbered_best}
+use Rattle.break_core.proofs.offering.put_rest.Goals as goal
 
 pub loop-index-init : goal.loop-index-init
-loop-index-init c =
-    let table = c.args.table.now in
-    let start = c.args.group.start in
-    let e = c.index-table-group.result in
-    let within : start < length table = omega (arith, c.requires.has_entries, c.requires.group_bounded) in
-    let few : start + 1 ≤ no_entry = omega (arith, c.requires.has_entries) in
-    record {
-      low = omega arith;
-      long = search rules;
-      best = best_first table c.args.params.now start e c.offers_before-best.result
-          (slice_get_read table (length table) start e refl within c.index-table-group.is) few c.offers_before-best.ensures;
-    }
+loop-index-init c = record { low = omega arith; long = search rules; best = c.requires.first }
 
-pub better_each-better-requires-clause-a_bounded : goal.better_each-better-requires-clause-a_bounded
-better_each-better-requires-clause-a_bounded c =
+pub put_better_each-requires-clause-best_bounded : goal.put_better_each-requires-clause-best_bounded
+put_better_each-requires-clause-best_bounded c =
     numbered_best c.args.table.now c.args.params.now c.args.group.start c.loop-index.index c.loop-index.best c.loop-index.invariant.best
 
-pub better_each-better-requires-clause-b_bounded : goal.better_each-better-requires-clause-b_bounded
-better_each-better-requires-clause-b_bounded c =
+pub put_better_each-requires-clause-others_bounded : goal.put_better_each-requires-clause-others_bounded
+put_better_each-requires-clause-others_bounded c =
     numbered_before c.args.table.now c.args.params.now c.index-table-index.result c.loop-index.index c.offers_before-others.result c.offers_before-others.ensures
     (omega (arith, c.loop-index-test.true, c.requires.group_bounded))
 
@@ -39,9 +28,9 @@ loop-index-preserved c =
     record {
       low = omega (arith, inv.low);
       long = search rules;
-      best = best_more table c.args.params.now c.args.group.start index e c.loop-index.best c.offers_before-others.result c.better_each-better.result inv.best
+      best = best_more table c.args.params.now c.args.group.start index e c.loop-index.best c.offers_before-others.result c.put_better_each.new.best inv.best
           (omega (arith, inv.low)) few (slice_get_read table (length table) index e refl within c.index-table-index.is) c.offers_before-others.ensures inv.long wide
-          c.better_each-better.ensures;
+          c.put_better_each.ensures;
     }
 
 pub returns : goal.returns

@@ -1,6 +1,6 @@
 use Rattle.std.proofs.Common.{◌≡◌, ◌<◌, length}
 use Rattle.break_core.specs.Private.Offers.{AreBestFor}
-use Rattle.break_core.proofs.offering.best_of.Given as goal
+use Rattle.break_core.proofs.offering.put_rest.Given as goal
 
 abbrev pub invariant-loop-index : goal.invariant-loop-index
 invariant-loop-index l = record {
