@@ -1,5 +1,5 @@
 -- A body whose characters stand apart: movements are written in it as among its other instructions alone.
-use Rattle.std.proofs.Common.{◌≡◌, ◌+◌, ◌-◌, ◌++◌, ◌∷◌, [], List, ℕ, ℤ, zero, suc, Bool, true, false, ◌||◌, length, take, drop, refl, sym, ◌∙◌, ap, append-nil, arith}
+use Rattle.std.proofs.Common.{◌≡◌, ◌-◌, ◌++◌, ◌∷◌, [], List, ℕ, ℤ, zero, suc, Bool, true, false, ◌||◌, length, take, drop, refl, sym, ◌∙◌, ap, append-nil, arith}
 use Rattle.std.specs.Prelude.{pos}
 use Rattle.dvi_ops.specs.Instruction.{Axis, Across, Downward, By, Set, Again, Move, SetChar, Instruction, Do, Push, Pop}
 use Rattle.dvi_ops.specs.Forest.{Forest, flat}

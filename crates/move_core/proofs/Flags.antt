@@ -1,8 +1,8 @@
 -- Flags that are made from the last movement to the first, and consumed from the first to the last; and one step of the pass that writes in place.
-use Rattle.std.proofs.Common.{◌≡◌, ◌<◌, ◌+◌, ◌-◌, ◌∷◌, [], ◌++◌, List, ℕ, Bool, true, false, cond, Option, Some, None, refl, sym, ◌∙◌, ap, ap₂, reverse, length, get_or, set, take, drop, map, unwrap_or, arith}
+use Rattle.std.proofs.Common.{◌≡◌, ◌<◌, ◌+◌, ◌-◌, ◌∷◌, [], ◌++◌, List, ℕ, Bool, true, false, Option, Some, None, refl, sym, ◌∙◌, ap, ap₂, reverse, length, get_or, set, take, drop, map, unwrap_or, arith}
 use Rattle.std.specs.Prelude.{option_to_list, MatchOption}
-use Rattle.std.proofs.lemmas.List.{append_assoc, drop_more, drop-set-lt, length-set, map-append, nil_from_length, reverse-append, take_more, take_more_set}
-use Rattle.dvi_ops.specs.Instruction.{Across, Downward, By, Set, Again, Move, Instruction, Do, Push, Pop}
+use Rattle.std.proofs.lemmas.List.{append_assoc, drop_more, map-append, nil_from_length, reverse-append, take_more, take_more_set}
+use Rattle.dvi_ops.specs.Instruction.{Across, Downward, By, Set, Again, Move, Instruction, Do}
 use Rattle.dvi_ops.specs.View.{body_view}
 use Rattle.dvi_ops.specs.declared.body_op.BodyOp.{BodyOp}
 use Rattle.move_core.specs.Registers.{KnownRegisters}

@@ -1,6 +1,6 @@
 //! The passes over the instructions of a page.
 
-ghost use Rattle.std.specs.Prelude.{◌≡◌, ◌<◌, [], ◌∷◌, List, false, length, map, reverse, IfOk, OnOk};
+ghost use Rattle.std.specs.Prelude.{◌≡◌, ◌<◌, ◌≤◌, ◌+◌, [], ◌∷◌, List, false, length, map, reverse, vec_len, vec_capacity, IfOk, OnOk};
 ghost use Rattle.dvi_ops.specs.Instruction.{Instruction};
 ghost use Rattle.dvi_ops.specs.View.{body_view};
 ghost use Rattle.move_core.specs.Private.Passes.{again_in, trimmed_instructions, ends_empty_group, is_push, has_empty_group, flags_of, is_move};
@@ -26,30 +26,22 @@ fn append_trimmed<'a>(out: &mut Vec<BodyOp<'a>>, op: BodyOp<'a>) -> Result<(), A
     Ok(())
 }
 
-/// Whether an instruction ends an empty group, where `pushed` is whether the instruction before it is a push.
-fn ends_empty_group(pushed: bool, op: &BodyOp<'_>) -> bool
-    ensures { result ≡ ends_empty_group pushed (body_view op.now) }
+/// Whether an instruction ends an empty group: it is a pop, and the one before it a push. Pops are rare, so they are looked for first.
+#[inline(always)]
+fn ends_empty_group(before: &BodyOp<'_>, op: &BodyOp<'_>) -> bool
+    ensures { result ≡ ends_empty_group (is_push (body_view before.now)) (body_view op.now) }
 {
-    pushed && matches!(op, BodyOp::Pop)
-}
-
-/// Whether an instruction is a push.
-fn is_push(op: &BodyOp<'_>) -> bool
-    ensures { result ≡ is_push (body_view op.now) }
-{
-    matches!(op, BodyOp::Push)
+    matches!(op, BodyOp::Pop) && matches!(before, BodyOp::Push)
 }
 
 /// Whether some pop comes directly after a push.
 pub fn has_empty_group(ops: &[BodyOp<'_>]) -> bool
     ensures { result ≡ has_empty_group false (map body_view ops.now) }
 {
-    let mut pushed = false;
-    for op in ops {
-        if ends_empty_group(pushed, op) {
+    for index in 1..ops.len() {
+        if ends_empty_group(&ops[index - 1], &ops[index]) {
             return true;
         }
-        pushed = is_push(op);
     }
     false
 }
@@ -76,21 +68,18 @@ fn is_move(op: &BodyOp<'_>) -> bool
     matches!(op, BodyOp::Right(_) | BodyOp::Down(_))
 }
 
-/// Appends the flag of an instruction, if it is a movement without a register. The first case is a store without a call.
+/// Appends the flag of an instruction, if it is a movement without a register. There is space for it.
 #[inline(always)]
-fn push_flag(flags: &mut Vec<bool>, op: &BodyOp<'_>, again: bool) -> Result<(), AllocError>
-    ensures { OnOk result ((rest : List Instruction) → again ≡ again_in (body_view op.now) rest → reverse flags.old.items ≡ flags_of rest →
-        reverse flags.new.items ≡ flags_of (body_view op.now ∷ rest)) }
+fn push_flag(flags: &mut Vec<bool>, op: &BodyOp<'_>, again: bool)
+    requires { vec_len flags.old < vec_capacity flags.old }
+    ensures flags { (rest : List Instruction) → again ≡ again_in (body_view op.now) rest → reverse flags.old.items ≡ flags_of rest →
+        reverse flags.new.items ≡ flags_of (body_view op.now ∷ rest) }
+    ensures len { vec_len flags.new ≤ vec_len flags.old + 1 }
+    ensures capacity { vec_capacity flags.new ≡ vec_capacity flags.old }
 {
-    if !is_move(op) {
-        return Ok(());
-    }
-    if flags.len() < flags.capacity() {
+    if is_move(op) {
         flags.push_reserved(again);
-        return Ok(());
     }
-    flags.push(again)?;
-    Ok(())
 }
 
 /// For each movement without a register, from the last to the first, whether its amount comes again.
@@ -101,7 +90,7 @@ fn which_come_again(alloc: Global, ops: &[BodyOp<'_>]) -> Result<Vec<bool>, Allo
     let mut flags = Vec::with_capacity(alloc, ops.len())?;
     for i in (0..ops.len()).rev() {
         let again = later.meet(alloc, ops[i])?;
-        push_flag(&mut flags, &ops[i], again)?;
+        push_flag(&mut flags, &ops[i], again);
     }
     Ok(flags)
 }

@@ -17,5 +17,6 @@ loop-i-preserved c =
     let e = in_front all i (ops.SetChar (pos 0)) (omega arith) at in
     record {
       knows = subst (λ (is : List Instruction). Knows c.meet.new.self is) (sym e) (c.in_ok-again.ensures.knows rest c.loop-i.invariant.knows);
-      flags = c.in_ok-push_flag.ensures rest (c.in_ok-again.ensures.again rest c.loop-i.invariant.knows) c.loop-i.invariant.flags ∙ ap flags_of (sym e);
+      space = omega (arith, c.loop-i.invariant.space, c.push_flag.ensures.len, c.push_flag.ensures.capacity);
+      flags = c.push_flag.ensures.flags rest (c.in_ok-again.ensures.again rest c.loop-i.invariant.knows) c.loop-i.invariant.flags ∙ ap flags_of (sym e);
     }
