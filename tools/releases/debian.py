@@ -13,7 +13,15 @@ from tools.releases.builds import Build
 from tools.releases.edition import Edition
 from tools.releases.older_glibc import needed_glibc
 from tools.releases.packing import set_times
-from tools.releases.tree import NO_LICENCE, WHEELS, data_of, files_below, staged, write
+from tools.releases.tree import (
+    NO_LICENCE,
+    WHEELS,
+    data_of,
+    files_below,
+    put_documents,
+    staged,
+    write,
+)
 
 LIBRARIES = "lib/x86_64-linux-gnu"
 PACKAGES = "usr/lib/python3/dist-packages"
@@ -43,14 +51,15 @@ def with_glibc(path: str) -> str:
     return f"libc6 (>= {needed_glibc(data_of(path))})"
 
 
-def program_package(root: str, top: str, kinds: dict[str, str]) -> Package:
-    """The package of the program, with its manual page, its completions and two examples."""
+def program_package(root: str, top: str, kinds: dict[str, str], room: str) -> Package:
+    """The package of the program, with its manual page, its completions, the documents and the
+    examples."""
     places = ("bin/", "share/man/man1/", "share/bash-completion/", "share/fish/")
     files = {it: f"usr/{it}" for it in kinds if it.startswith(places)}
     files["share/zsh/site-functions/_boxglue"] = "usr/share/zsh/vendor-completions/_boxglue"
-    for name in ("first_page.box", "plain.tfm"):
-        place = os.path.relpath(f"{root}/examples/{name}", top)
-        files[place] = f"usr/share/doc/boxglue/examples/{name}"
+    for name in put_documents(root, f"{room}/documents"):
+        place = os.path.relpath(f"{room}/documents/{name}", top)
+        files[place] = f"usr/share/doc/boxglue/{name}"
     about = "It runs scripts of boxes, glue and text, writes DVI files, and reads them."
     return Package("boxglue", "text", with_glibc(f"{top}/bin/boxglue"), about, files)
 
@@ -62,12 +71,14 @@ def development_files(kinds: dict[str, str]) -> dict[str, str]:
     return {it: f"usr/{it}" for it in kinds if it.startswith(places) or is_other(it)}
 
 
-def packages_of(root: str, top: str, kinds: dict[str, str], edition: Edition) -> list[Package]:
+def packages_of(
+    root: str, top: str, kinds: dict[str, str], room: str, edition: Edition
+) -> list[Package]:
     """The packages but for that of Python, of what `./install` puts into Debian's folders."""
     shared = f"{LIBRARIES}/libboxglue.so.{edition.number}"
     same = "Architecture: amd64\nMulti-Arch: same\n"
     return [
-        program_package(root, top, kinds),
+        program_package(root, top, kinds, room),
         Package(
             "libboxglue1",
             "libs",
@@ -159,7 +170,8 @@ def put_file(source: str, path: str) -> None:
     if "/share/man/" in path:
         put(f"{path}.gz", gzip.compress(data, 9, mtime=0), 0o644)
         return
-    put(path, data, 0o755 if path.endswith("/bin/boxglue") else 0o644)
+    is_script = "/share/doc/" in path and os.access(source, os.X_OK)
+    put(path, data, 0o755 if is_script or path.endswith("/bin/boxglue") else 0o644)
     if path.endswith("/bin/boxglue") or re.search(r"\.so\.[\d.]+$", path):
         stripped(path, "--remove-section=.comment")
     if path.endswith(".a"):
@@ -168,7 +180,7 @@ def put_file(source: str, path: str) -> None:
 
 def changes(edition: Edition) -> str:
     """The text of the list of changes."""
-    return f"boxglue ({edition.debian}) unstable; urgency=medium\n\n  * Version {edition.number}: CHANGELOG.md of the release lists the changes.\n\n -- {MAINTAINER}  {formatdate(edition.seconds)}\n"
+    return f"boxglue ({edition.debian}) unstable; urgency=medium\n\n  * Version {edition.number}: CHANGELOG.md of the package boxglue lists the changes.\n\n -- {MAINTAINER}  {formatdate(edition.seconds)}\n"
 
 
 def fill(package: Package, top: str, room: str, edition: Edition) -> None:
@@ -207,7 +219,8 @@ def make_packages(
 ) -> None:
     """Writes the packages into a folder."""
     top, kinds = staged(root, build, program, f"{room}/debian", LIBRARIES)
-    for package in [*packages_of(root, top, kinds, edition), python_package(top, room, edition)]:
+    packages = packages_of(root, top, kinds, room, edition)
+    for package in [*packages, python_package(top, room, edition)]:
         make_package(package, top, folder, f"{room}/packages/{package.name}", edition)
 
 

@@ -7,11 +7,11 @@ import shutil
 
 from tools.commands import done
 from tools.releases.builds import Build
-from tools.releases.edition import Edition
+from tools.releases.edition import Edition, answer_of
 
 LIST, WHEELS, CRATES = "share/boxglue/installed.tsv", "share/boxglue/python", "share/boxglue/rust"
 # Files of the repository, by what they are below the folder and below share/doc/boxglue of a
-# prefix.
+# prefix. All examples are there too.
 DOCUMENTS = [
     "README.md",
     "CHANGELOG.md",
@@ -27,13 +27,15 @@ DOCUMENTS = [
             "REFUSALS",
             "AUTHORS",
             "PROVED",
+            "TOUR",
+            "SPEED",
         )
     ),
     "docs/quickstart.png",
-    "examples/first_page.box",
-    "examples/plain.tfm",
-    "examples/two_columns.box",
-    "examples/pictures/two_columns-1.png",
+    "docs/speed_places.svg",
+    "docs/speed_items.svg",
+    "docs/speed_memory.svg",
+    "docs/boxglue.1",
 ]
 NO_LICENCE = """No licence has been chosen for boxglue. Ask the person who gave you these files before you use them or hand them on.
 The Rattle kit's libraries, of which parts are in the program and in the libraries, have licences of their own: the bill of materials names the libraries.
@@ -109,26 +111,30 @@ def without_lost_links(text: str, path: str, names: list[str]) -> str:
     """A document whose links to files that are not in the folder are their texts alone."""
 
     def shown(found: re.Match[str]) -> str:
-        target = os.path.normpath(f"{os.path.dirname(path)}/{found[3]}")
-        return found[0] if "://" in found[3] or target in names else found[2]
+        target = os.path.normpath(os.path.join(os.path.dirname(path), found[3]))
+        is_there = any(it == target or it.startswith(f"{target}/") for it in names)
+        return found[0] if "://" in found[3] or is_there else found[2]
 
     return LINK.sub(shown, text)
 
 
-def put_documents(root: str, top: str) -> dict[str, str]:
-    """Copies the documents, and returns where a prefix has each."""
-    for name in DOCUMENTS:
+def document_names(root: str) -> list[str]:
+    """The documents and the examples of a clone."""
+    examples = answer_of(["git", "ls-files", "examples"], root).splitlines()
+    return [*DOCUMENTS, *(it for it in examples if os.path.basename(it) != ".gitignore")]
+
+
+def put_documents(root: str, top: str) -> list[str]:
+    """Copies the documents and the examples, and returns their names."""
+    names = document_names(root)
+    for name in names:
         os.makedirs(os.path.dirname(f"{top}/{name}"), exist_ok=True)
         if name.endswith(".md"):
-            write(
-                f"{top}/{name}",
-                without_lost_links(read(f"{root}/{name}"), name, [*DOCUMENTS, "docs/boxglue.1"]),
-            )
+            write(f"{top}/{name}", without_lost_links(read(f"{root}/{name}"), name, names))
         else:
             shutil.copyfile(f"{root}/{name}", f"{top}/{name}")
-    shutil.copyfile(f"{root}/docs/boxglue.1", f"{top}/docs/boxglue.1")
-    write(f"{top}/LICENCE.txt", NO_LICENCE)
-    return {it: f"share/doc/boxglue/{it}" for it in [*DOCUMENTS, "docs/boxglue.1", "LICENCE.txt"]}
+            os.chmod(f"{top}/{name}", 0o755 if os.access(f"{root}/{name}", os.X_OK) else 0o644)
+    return names
 
 
 def files_below(top: str) -> list[str]:
@@ -167,7 +173,9 @@ def finish(root: str, top: str, kinds: dict[str, str], report: tuple[str, str]) 
     and the sums."""
     name, text = report
     write(f"{top}/{name}", text)
-    places = {**put_documents(root, top), name: f"share/doc/boxglue/{name}"}
+    write(f"{top}/LICENCE.txt", NO_LICENCE)
+    names = [*put_documents(root, top), "LICENCE.txt", name]
+    places = {it: f"share/doc/boxglue/{it}" for it in names}
     rows = [
         *((kind, path, path) for path, kind in kinds.items()),
         *(("text", source, target) for source, target in places.items()),
