@@ -191,8 +191,10 @@ class Piece:
 
 
 def hint_of(refused: Refused, command: str, fonts: tuple[str, ...] | None) -> str:
-    """The names of the job's fonts, if they are known and a command names a font that the job does
-    not have."""
+    """Which font is missing: the current one, or else the names of the job's fonts, if they are
+    known and a command names a font that the job does not have."""
+    if refused.name == "NoFont" and command.startswith(("text ", "char ")):
+        return "no font is current: `use` chooses one"
     if fonts is None or refused.name != "NoFont" or not command.startswith("font "):
         return ""
     if not fonts:

@@ -424,8 +424,12 @@ class Source:
             self._glue(f"glue {glue(*piece)}\n")
         elif isinstance(piece, Discretionary):
             self._group.append(piece)
-        else:
+        elif callable(piece):
             self._recorded(piece)
+        else:
+            raise TypeError(
+                f"a piece of a paragraph must be a text, a font of load(), a Glue, a Discretionary or a function, not {piece!r:.40}"
+            )
 
     def _font(self, font: LoadedFont | None, commands: Commands) -> None:
         """Adds commands after which another font is the current one."""

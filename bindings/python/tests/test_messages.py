@@ -126,8 +126,26 @@ class OfTexts(Messages):
             "hyphenation.Patterns.read(path), not 'hyphen.tex'",
         )
 
+    def test_piece_of_another_kind(self):
+        with self.job.vbox(into=0):
+            said = self.said(TypeError, self.job.paragraph, ["a", 3])
+        self.assertEqual(
+            said,
+            "a piece of a paragraph must be a text, a font of load(), a Glue, a Discretionary or a "
+            "function, not 3",
+        )
+
 
 class OfFonts(Messages):
+    def test_text_without_a_font(self):
+        job = boxglue.Job(plain())
+        with job.hbox(into=0):
+            for call, given in ((job.text, "a"), (job.char, 65)):
+                self.assertRegex(
+                    self.said(Refused, call, given), "; no font is current: `use` chooses one$"
+                )
+            self.assertNotIn("current", self.said(Refused, job.use, 7))
+
     def test_font_that_the_job_does_not_have(self):
         said = self.said(Refused, self.job.load, "cmr11")
         self.assertRegex(
