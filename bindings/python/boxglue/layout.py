@@ -11,6 +11,14 @@ links that know their line.
         for line in rows[:end]:
             job.box(line.register)
             line.register.release()
+
+A footnote leaves a mark in its line: a rule of no width that is deeper than any letter, and no
+deeper than the `depth` of the lines, which would else be farther apart. Add it by a piece such as
+`lambda batch: batch.rule(0, 0, pt(3) + number)`, and find it in the line:
+
+    rules = [it for it in line.box.items if isinstance(it, boxglue.RuleItem)]
+    numbers = [it.depth - pt(3) for it in rules if it.width == 0 and it.depth > pt(3)]
+    layout.Measures(line.size, notes=sum(heights[it] for it in numbers))
 """
 
 from __future__ import annotations
