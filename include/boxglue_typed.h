@@ -14,7 +14,9 @@
  *
  * All calls are inline functions over boxglue_job_run of boxglue.h, and the library exports none of them. C99 or C++98 is enough.
  *
- * Each boxglue_do call tests its arguments, runs one command (docs/COMMANDS.md, section 3), and stores the reply in the handle. It returns one of these statuses:
+ * Each boxglue_do call tests its arguments, runs one command (docs/COMMANDS.md, section 3), and stores the reply in the handle. A call has the name of its
+ * command, except boxglue_do_load for `font`, boxglue_do_set_dimension, boxglue_do_set_glue and boxglue_do_set_number for `set`, and boxglue_do_finish, which
+ * ends the job. It returns one of these statuses:
  *
  * - BOXGLUE_ACCEPTED: The command was done. `reply` has what it answers.
  * - BOXGLUE_REFUSED: The command was refused and changed nothing. `reply.refusal` says why, and boxglue_refusal_name names it.
