@@ -103,6 +103,10 @@ impl fmt::Display for Refusal {
         for (at, it) in self.open_lists.iter().enumerate() {
             write!(out, "{}{} (line {})", if at == 0 { "; open lists: " } else { ", " }, it.form, it.line)?;
         }
+        let adds_text = |it: &String| it.starts_with("text ") || it.starts_with("char ");
+        if self.kind() == RefusalKind::NoFont && self.command.as_ref().is_some_and(adds_text) {
+            out.write_str("; no font is current: `use` chooses one")?;
+        }
         Ok(())
     }
 }

@@ -233,3 +233,14 @@ fn a_forgotten_list_is_no_fault() {
     let list = job.hbox(0, Target::Natural).unwrap();
     assert!(list.end().is_ok());
 }
+
+/// A text before the first `use`, and a slot without a font.
+#[test]
+fn missing_font() {
+    let mut job = Job::new(&[]).unwrap();
+    let mut list = job.hbox(0, Target::Natural).unwrap();
+    assert_eq!(list.text("a").unwrap_err().to_string(), "line 2: refused 4 NoFont: \"text a\"; no font is current: `use` chooses one");
+    assert_eq!(list.char(65).unwrap_err().to_string(), "line 3: refused 4 NoFont: \"char 65\"; no font is current: `use` chooses one");
+    list.end().unwrap();
+    assert_eq!(job.use_font(7).unwrap_err().to_string(), "line 5: refused 4 NoFont: \"use 7\"");
+}
