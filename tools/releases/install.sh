@@ -126,6 +126,7 @@ done < "$here/FILES"
 remove_old_wheels
 wheel=$(cut -f3 "$here/FILES" | grep '\.whl$')
 echo "boxglue is in place below $top"
+echo "to begin: $prefix/share/doc/boxglue/docs/QUICKSTART.md"
 echo "for C: PKG_CONFIG_PATH='$prefix/lib/pkgconfig' pkg-config --cflags --libs boxglue"
 echo "for CMake: find_package(boxglue), with -DCMAKE_PREFIX_PATH='$prefix'"
 echo "for Python: pip install '$prefix/$wheel'"
