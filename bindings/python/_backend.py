@@ -43,7 +43,7 @@ def build_wheel(wheel_directory, config_settings=None, metadata_directory=None):
     script, own = _wheel_script(), f"{HERE}/boxglue/libboxglue.so"
     named = (config_settings or {}).get("library") or os.environ.get("BOXGLUE_LIBRARY")
     if not named and not os.path.exists(own):
-        ways = "make it with bindings/build, and name it in BOXGLUE_LIBRARY or with --config-settings library=PATH"
+        ways = "name one, such as lib/libboxglue.so of a release or of ./install --library, in BOXGLUE_LIBRARY or with --config-settings library=PATH"
         sys.exit(f"boxglue: the wheel needs libboxglue.so: {ways}")
     try:
         return script.make_wheel(named or own, wheel_directory)
