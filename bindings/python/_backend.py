@@ -45,6 +45,10 @@ def build_wheel(wheel_directory, config_settings=None, metadata_directory=None):
     if not named and not os.path.exists(own):
         ways = "name one, such as lib/libboxglue.so of a release or of ./install --library, in BOXGLUE_LIBRARY or with --config-settings library=PATH"
         sys.exit(f"boxglue: the wheel needs libboxglue.so: {ways}")
+    if named and not os.path.isabs(named) and not os.path.exists(named):
+        sys.exit(
+            f"boxglue: there is no {os.path.abspath(named)}: name the library by its whole path"
+        )
     try:
         return script.make_wheel(named or own, wheel_directory)
     except (script.Unfit, OSError) as error:
