@@ -54,7 +54,10 @@ remove_all() {
 
 check_sums() {
   command -v sha256sum > /dev/null || fail "there is no sha256sum on the path: it belongs to coreutils"
-  (cd "$here" && sha256sum -c SHA256SUMS > /dev/null) || fail "the sums of SHA256SUMS are not those of the files: nothing is put in place"
+  (cd "$here" && sha256sum --strict -c SHA256SUMS > /dev/null) || fail "the sums of SHA256SUMS are not those of the files: nothing is put in place"
+  { echo FILES; cut -f2 "$here/FILES"; } | while IFS= read -r path; do
+    cut -c67- "$here/SHA256SUMS" | grep -Fqx "$path" || fail "SHA256SUMS lacks $path: nothing is put in place"
+  done || exit 1
 }
 
 # An unproved file does not replace a proved one.
