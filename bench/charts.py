@@ -4,7 +4,7 @@ FOLDER], by default docs/speed.tsv, docs/speed_large.tsv and docs.
 
   speed_places.svg  microseconds and instructions per place against the length of the paragraph, at
                     both widths, beside tex
-  speed_items.svg   bars for each case and each of its peers: time, instructions, D1 misses and
+  speed_items.svg   bars for each case and each of its peers: time, instructions, cache misses and
                     memory as a ratio to the peer
   speed_memory.svg  the peak memory of small and large cases, beside the peer where there is one
 
@@ -23,13 +23,13 @@ COLOURS = {
     "tex": "#b5532a",
     "time": "#0b62a4",
     "instructions": "#5a9bd0",
-    "D1 misses": "#d9a441",
+    "cache misses": "#d9a441",
     "memory": "#a9b4bd",
 }
 RATIOS = (
     ("time", "seconds"),
     ("instructions", "instructions"),
-    ("D1 misses", "misses"),
+    ("cache misses", "misses"),
     ("memory", "memory"),
 )
 INK, FAINT, GRID = "#222222", "#666666", "#dddddd"

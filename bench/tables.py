@@ -19,7 +19,7 @@ PROGRAMS = "| case | program |"
 COSTS = {
     "seconds": ("seconds", lambda value: f"{value:.3f}"),
     "million instructions": ("instructions", lambda value: f"{value / 1e6:,.0f}"),
-    "million D1 misses": ("misses", lambda value: f"{value / 1e6:.2f}"),
+    "million cache misses": ("misses", lambda value: f"{value / 1e6:.2f}"),
     "MB": ("memory", lambda value: f"{value / 1e6:.1f}"),
 }
 BESIDE = {
