@@ -29,12 +29,7 @@ fn bitmap_bits(
     let painting = page_bitmap(alloc, dvi, &files, options)?;
     let bitmap = match painting {
         Painting::Painted(bitmap) => bitmap,
-        Painting::Refusal(text) => {
-            return Ok(Output {
-                text,
-                accepted: false,
-            });
-        }
+        Painting::Refusal(text) => return Ok(Output::of_refusal(text)),
     };
     let text = bitmap.pixel_bytes(alloc)?;
     Ok(Output {

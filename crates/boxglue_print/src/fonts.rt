@@ -42,10 +42,7 @@ pub fn fonts_text(alloc: Global, dvi: &[u8]) -> Result<Output, AllocError>
         Ok(defined) => defined,
         Err(fault) => {
             let text = refusal(alloc, fault)?;
-            return Ok(Output {
-                text,
-                accepted: false,
-            });
+            return Ok(Output::of_refusal(text));
         }
     };
     let mut text = Vec::new(alloc);

@@ -74,10 +74,10 @@ impl From<OutputFault> for DeviceFault {
 }
 
 /// Creates the file of a host, unless it was created before.
-fn open<H: FileHost>(host: &mut H, path: &str, is_created: &mut bool) -> Result<(), DeviceFault>
+fn create_once<H: FileHost>(host: &mut H, path: &str, is_created: &mut bool) -> Result<(), DeviceFault>
     ensures bytes_written { written_to_file is_created.new (H.written host.new) ≡ written_to_file is_created.old (H.written host.old) }
-    ensures open { OnOk result (is_created.new ≡ true) }
-    ensures kept_open { is_created.new ≡ false → is_created.old ≡ false }
+    ensures created { OnOk result (is_created.new ≡ true) }
+    ensures stays_created { is_created.new ≡ false → is_created.old ≡ false }
     ensures closed { is_created.new ≡ false → H.written host.new ≡ H.written host.old }
     ensures placed { (before : List (List ℕ)) → H.created host.old ≡ created_after is_created.old path.now before
         → H.created host.new ≡ created_after is_created.new path.now before }
@@ -104,16 +104,16 @@ fn put<H: FileHost>(
     ensures taken { IfOk result (λ n. written_to_file is_created.new (H.written host.new)
         ≡ written_then (written_to_file is_created.old (H.written host.old)) (take n piece.now)) }
     ensures none_taken { OnErr result (written_to_file is_created.new (H.written host.new) ≡ written_to_file is_created.old (H.written host.old)) }
-    ensures opened { OnOk result (is_created.new ≡ true) }
+    ensures created { OnOk result (is_created.new ≡ true) }
     ensures used { OnOk result (ForSome (H.written host.new) (λ bytes. bytes ≢ [])) }
     ensures closed { is_created.new ≡ false → H.written host.new ≡ H.written host.old }
-    ensures kept_open { is_created.new ≡ false → is_created.old ≡ false }
+    ensures stays_created { is_created.new ≡ false → is_created.old ≡ false }
     ensures placed { (before : List (List ℕ)) → H.created host.old ≡ created_after is_created.old path.now before
         → H.created host.new ≡ created_after is_created.new path.now before }
     ensures no_failure { OnOk result (H.failures host.new ≡ H.failures host.old) }
     ensures counted { OnErr result (H.failures host.new ≡ H.failures host.old + 1) }
 {
-    open(host, path, is_created)?;
+    create_once(host, path, is_created)?;
     let count = host.write(piece)?;
     Ok(count)
 }

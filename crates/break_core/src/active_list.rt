@@ -167,7 +167,8 @@ pub(crate) fn remove_groups(lives: &mut Vec<Live>, kept: usize, next: usize)
     lives.truncate(remaining);
 }
 
-/// Removes the groups from which trying has stopped, if there are many and more than others, or all groups. So few groups are moved for each one.
+/// Removes the groups from which trying has stopped, if there are many and no fewer than the others, or all groups. So at most one group is moved for
+/// each one that is removed.
 #[inline]
 pub(crate) fn remove_stopped(lives: &mut LiveGroups, all: bool)
     requires first_bounded { lives.old.first ≤ length lives.old.list.items }

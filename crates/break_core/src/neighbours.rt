@@ -148,7 +148,7 @@ fn add_neighbours(
     Ok(())
 }
 
-/// The same, if lines are counted. Before the group the last one of the list was added.
+/// The same, if lines are counted. It has to be called before the group is added to the list: the last group of the list is the previous one.
 #[inline(always)]
 pub(crate) fn keep_neighbours<const COUNTED: bool>(
     list: &mut Vec<Neighbours>,
