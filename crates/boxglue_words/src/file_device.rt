@@ -74,7 +74,11 @@ impl From<OutputFault> for DeviceFault {
 }
 
 /// Creates the file of a host, unless it was created before.
-fn create_once<H: FileHost>(host: &mut H, path: &str, is_created: &mut bool) -> Result<(), DeviceFault>
+fn create_once<H: FileHost>(
+    host: &mut H,
+    path: &str,
+    is_created: &mut bool,
+) -> Result<(), DeviceFault>
     ensures bytes_written { written_to_file is_created.new (H.written host.new) ≡ written_to_file is_created.old (H.written host.old) }
     ensures created { OnOk result (is_created.new ≡ true) }
     ensures stays_created { is_created.new ≡ false → is_created.old ≡ false }
