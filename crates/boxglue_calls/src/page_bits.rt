@@ -29,7 +29,12 @@ fn bitmap_bits(
     let painting = page_bitmap(alloc, dvi, &files, options)?;
     let bitmap = match painting {
         Painting::Painted(bitmap) => bitmap,
-        Painting::Refusal(text) => return Ok(Output::of_refusal(text)),
+        Painting::Refusal(text) => {
+            return Ok(Output {
+                text,
+                accepted: false,
+            });
+        }
     };
     let text = bitmap.pixel_bytes(alloc)?;
     Ok(Output {

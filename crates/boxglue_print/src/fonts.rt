@@ -42,7 +42,10 @@ pub fn fonts_text(alloc: Global, dvi: &[u8]) -> Result<Output, AllocError>
         Ok(defined) => defined,
         Err(fault) => {
             let text = refusal(alloc, fault)?;
-            return Ok(Output::of_refusal(text));
+            return Ok(Output {
+                text,
+                accepted: false,
+            });
         }
     };
     let mut text = Vec::new(alloc);

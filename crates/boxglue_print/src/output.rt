@@ -26,19 +26,6 @@ pub struct Output {
     pub accepted: bool,
 }
 
-impl Output {
-    /// The output for a file that is refused: the text of its refusal.
-    pub fn of_refusal(text: Vec<u8>) -> Output
-        ensures text { result.text ≡ text }
-        ensures accepted { result.accepted ≡ false }
-    {
-        Output {
-            text,
-            accepted: false,
-        }
-    }
-}
-
 /// A page of a DVI file as a bitmap, or the text of the file's refusal.
 #[derive(Debug, Drop)]
 pub enum Painting {
@@ -134,7 +121,12 @@ pub fn paint_text(
     let painting = page_bitmap(alloc, dvi, files, options)?;
     let bitmap = match painting {
         Painting::Painted(bitmap) => bitmap,
-        Painting::Refusal(text) => return Ok(Output::of_refusal(text)),
+        Painting::Refusal(text) => {
+            return Ok(Output {
+                text,
+                accepted: false,
+            });
+        }
     };
     let mut text = Vec::new(alloc);
     bitmap.write_pbm(&mut text)?;
