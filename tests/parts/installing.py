@@ -4,6 +4,7 @@ builds without proofs and what makes the library's files; library_packages.py ha
 import fcntl
 import os
 import re
+import shutil
 import signal
 import subprocess
 import tempfile
@@ -378,13 +379,44 @@ def builds_unproved(site):
     proved program."""
     ran = site.install("--unproved", "--prefix", "ROOM/here")
     ran.check()
-    equal("what was called", site.recorded(), ["unproved "])
+    equal("what was called", site.recorded(), ["version top", "unproved "])
     equal("the files", files_below(f"{site.room}/here"), {*PLACES, LIST})
     said = SAYS.encode() in content(f"{site.room}/here/bin/boxglue")
     require(said, "the program does not say that it is unproved")
     last = ran.output.splitlines()[-2:]
     is_told = "UNPROVED" in last[0] and last[1].endswith(f": ./install --prefix {site.room}/here")
     require(is_told, f"the last lines are {last}")
+
+
+def keeps_builds(site):
+    """What was built without proofs is built again only if a source, a script or the kit is another
+    one; where nothing can be kept, each time."""
+    program, library = "unproved ", "unproved --library"
+    changes = {
+        "a crate": ("top/crates/left/src/lib.rt", "// left too\n"),
+        "a crate's files": ("top/crates/left/src/more.rt", ""),
+        "a script": ("top/tools/unproved.py", f"# A line.\n{UNPROVED}"),
+        "the kit": ("bin/rt", "#!/bin/sh\necho another\n"),
+    }
+
+    def check(what, wanted, *words):
+        before = len(site.recorded())
+        site.installs("--unproved", *words)
+        found = [it for it in site.recorded()[before:] if it.startswith("unproved")]
+        equal(f"what is built {what}", found, wanted)
+
+    check("at first", [program])
+    check("for the library", [library], "--library")
+    site.write("top/README.md", "text\n")
+    check("after a change of a document", [], "--library")
+    for what, change in changes.items():
+        site.write(*change)
+        check(f"after a change of {what}", [program, library], "--library")
+        check("again", [], "--library")
+    equal("the kept builds", len(os.listdir(f"{site.top}/out/unproved")), 1)
+    shutil.rmtree(f"{site.top}/out")
+    site.write("top/out", "")
+    check("without a folder", [program, library], "--library")
 
 
 def keeps_what_is_proved(site):
@@ -534,6 +566,7 @@ def cases(programs, root):
     yield "what is left", partial(knows_what_is_left, root)
     yield "a control group", partial(fits_a_control_group, root)
     yield "without proofs", site(builds_unproved)
+    yield "builds that are kept", site(keeps_builds)
     yield "over a proved program", site(keeps_what_is_proved)
     yield "the library", site(puts_the_library)
     yield "the library in another folder", site(puts_the_library_elsewhere)
