@@ -12,6 +12,7 @@ import json
 import os
 import re
 import shutil
+import sys
 import tempfile
 from functools import partial
 
@@ -22,6 +23,7 @@ from common.outcome import Skipped, lacks, need
 from common.running import finished
 from common.shared import own_folder
 from common.texts import last_lines
+from parts.library_claims import NO_NETWORK, need_pip
 from tools.releases.builds import says_unproved
 
 TITLE = "tools/release: the same bytes twice, in fresh systems of Debian by tarball and by packages, and without lintian's errors; what is damaged or changed is refused"
@@ -35,7 +37,7 @@ SECONDS = "1800000000"
 # What lintian may call an error: the maintainer has no address, and there is no licence.
 ALLOWED = {"malformed-contact", "no-copyright-file", "copyright-not-using-common-license-for-gpl"}
 NAMES = """
-    boxglue-{python}-x86_64-linux.tar.gz boxglue-{python}-x86_64-linux.spdx.json
+    boxglue-{number}-unproved-x86_64-linux.tar.gz boxglue-{number}-unproved-x86_64-linux.spdx.json
     boxglue-{python}-py3-none-manylinux_2_14_x86_64.whl boxglue-{python}.tar.gz
     boxglue-{cargo}.crate boxglue-sys-{cargo}.crate boxglue_{debian}_amd64.deb
     libboxglue1_{debian}_amd64.deb libboxglue-dev_{debian}_amd64.deb
@@ -134,9 +136,10 @@ def over(call, root, archive, program, *_programs):
 def spellings(made):
     """The version, in the spelling of each kind of package."""
     number = re.search(
-        r"/boxglue-([\d.]+)\.dev0\+unproved-x86_64-linux\.tar\.gz$", only(made, "*-linux.tar.gz")
+        r"/boxglue-([\d.]+)-unproved-x86_64-linux\.tar\.gz$", only(made, "*-linux.tar.gz")
     )[1]
     return {
+        "number": number,
         "python": f"{number}.dev0+unproved",
         "cargo": f"{number}-dev.0+unproved",
         "debian": f"{number}~dev0+unproved",
@@ -159,6 +162,17 @@ def names_wrong(_root, made):
     return (
         None if len(said.splitlines()) == len(wanted) - 1 else f"SHA256SUMS has {said.splitlines()}"
     )
+
+
+def pip_takes(_root, made):
+    """What pip takes for the bare name, in the folder of a release: the wheel. Older versions of
+    pip take for a source distribution what has a version between `boxglue-` and `.tar.gz`."""
+    need_pip()
+    words = [sys.executable, *"-m pip download --quiet --no-deps --find-links".split(), made]
+    with tempfile.TemporaryDirectory(prefix="boxglue-pip-") as room:
+        done([*words, "--dest", room, "boxglue"], room, **NO_NETWORK)
+        found, wanted = os.listdir(room), os.path.basename(only(made, "*.whl"))
+    return None if found == [wanted] else f"pip takes {found}, and not {wanted}"
 
 
 def twice(root, archive, program, *_programs):
@@ -415,6 +429,7 @@ def cases(programs, root):
     yield "the same bytes twice", partial(twice, root, *given)
     over_release = {
         "names and sums": names_wrong,
+        "what pip takes": pip_takes,
         "bill of materials": bill_wrong,
         "lintian": lintian_wrong,
         "shellcheck": script_wrong,

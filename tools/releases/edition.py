@@ -21,8 +21,8 @@ class Edition:
 
     @property
     def python(self) -> str:
-        """The version as Python has it, which the names of files have too. One without proofs sorts
-        below the proved one, here and below."""
+        """The version as Python has it. One without proofs sorts below the proved one, here and
+        below."""
         return self.number + ("" if self.is_proved else ".dev0+unproved")
 
     @property
@@ -37,8 +37,10 @@ class Edition:
 
     @property
     def top(self) -> str:
-        """The folder in the tarball, which has its name."""
-        return f"boxglue-{self.python}-x86_64-linux"
+        """The folder in the tarball, which has its name. Python's version must not stand in it:
+        `+unproved-x86_64-linux` is a legal end of one, and pip 23 would take the tarball for a
+        source distribution, before the wheel."""
+        return f"boxglue-{self.number}{'' if self.is_proved else '-unproved'}-x86_64-linux"
 
 
 def answer_of(words: list[str], folder: str) -> str:
