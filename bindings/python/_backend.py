@@ -41,18 +41,20 @@ def _wheel_script():
 def build_wheel(wheel_directory, config_settings=None, metadata_directory=None):
     """Writes the wheel, and returns its name."""
     script, own = _wheel_script(), f"{HERE}/boxglue/libboxglue.so"
-    named = (config_settings or {}).get("library") or os.environ.get("BOXGLUE_LIBRARY")
+    setting, variable = (config_settings or {}).get("library"), os.environ.get("BOXGLUE_LIBRARY")
+    named = setting or variable
+    begin = "boxglue: BOXGLUE_LIBRARY" if variable and not setting else "boxglue"
     if not named and not os.path.exists(own):
         ways = "name one, such as lib/libboxglue.so of a release or of ./install --library, in BOXGLUE_LIBRARY or with --config-settings library=PATH"
         sys.exit(f"boxglue: the wheel needs libboxglue.so: {ways}")
     if named and not os.path.isabs(named) and not os.path.exists(named):
         sys.exit(
-            f"boxglue: there is no {os.path.abspath(named)}: name the library by its whole path"
+            f"{begin}: there is no {os.path.abspath(named)}: name the library by its whole path"
         )
     try:
         return script.make_wheel(named or own, wheel_directory)
     except (script.Unfit, OSError) as error:
-        sys.exit(f"boxglue: {error}")
+        sys.exit(f"{begin}: {error}")
 
 
 def _sources():

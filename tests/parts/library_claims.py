@@ -162,12 +162,15 @@ def backend_wrong(root, prefix, said, room):
         if not is_same or wheels_in(f"{room}/{at}") != {name: True}:
             return f"pip makes {wheels_in(f'{room}/{at}')}, which is not the wheel of ./install"
     old = stand_in(root, f"{room}/old/libboxglue.so", True, 10100)
-    absent = ["--config-settings", f"library={room}/absent"]
+    absent, as_old = (["--config-settings", f"library={it}"] for it in (f"{room}/absent", old))
+    text, named = f"{source}/README.md", lambda it: {"BOXGLUE_LIBRARY": it}
     refusals = (
         ([], "the wheel needs libboxglue.so", {}),
-        ([], "has version 1.1.0, and the package", {"BOXGLUE_LIBRARY": old}),
-        ([], "is not a library of boxglue", {"BOXGLUE_LIBRARY": f"{source}/README.md"}),
-        (absent, "absent", {"BOXGLUE_LIBRARY": library}),
+        ([], f"boxglue: BOXGLUE_LIBRARY: {old} has version 1.1.0, and the package", named(old)),
+        ([], f"BOXGLUE_LIBRARY: {text} is not a library of boxglue", named(text)),
+        ([], f"BOXGLUE_LIBRARY: there is no {source}/absent", named("absent")),
+        (absent, f"boxglue: [Errno 2] No such file or directory: '{room}/absent'", named(library)),
+        (as_old, f"boxglue: {old} has version 1.1.0, and the package", named(library)),
     )
     found = (refused_wheel(source, words, why, room, **env) for words, why, env in refusals)
     return next(filter(None, found), None)

@@ -263,6 +263,8 @@ def shown_version(number: int) -> str:
 def library() -> Any:
     """The library, with the types of its calls."""
     path = library_path()
+    # A reader of a message who did not set the variable looks for the file in the package.
+    shown = f"BOXGLUE_LIBRARY names {path}, which" if os.environ.get("BOXGLUE_LIBRARY") else path
     try:
         found = ctypes.CDLL(path)
         found.boxglue_version.argtypes, found.boxglue_version.restype = [], c_uint32
@@ -271,10 +273,10 @@ def library() -> Any:
         if path == SYSTEM_LIBRARY and isinstance(error, OSError):
             why = "boxglue found no library in this package or the system: install the wheel, or name a library in BOXGLUE_LIBRARY"
             raise BoxglueError(f"{why} ({error})") from error
-        raise BoxglueError(f"{path} is not a library of boxglue: {error}") from error
+        raise BoxglueError(f"{shown} is not a library of boxglue: {error}") from error
     if number // 10_000 != 1:
         raise BoxglueError(
-            f"{path} has version {shown_version(number)}, and this package is for 1.x"
+            f"{shown} has version {shown_version(number)}, and this package is for 1.x"
         )
     # After the version, so that an older library is named as one.
     for name, types in _CALLS.items():
@@ -282,7 +284,7 @@ def library() -> Any:
             call = getattr(found, f"boxglue_{name}")
         except AttributeError:
             raise BoxglueError(
-                f"{path} has version {shown_version(number)}, and lacks boxglue_{name}: it is older than this package"
+                f"{shown} has version {shown_version(number)}, and lacks boxglue_{name}: it is older than this package"
             ) from None
         call.argtypes, call.restype = types, None if name == "job_free" else c_uint32
     return found

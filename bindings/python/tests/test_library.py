@@ -12,10 +12,10 @@ class Versions(unittest.TestCase):
     """What is said of a library that is not the one of this package: a stand-in with its version,
     and without any other call."""
 
-    def message(self, number):
-        version = lambda: number
-        with mock.patch(
-            "ctypes.CDLL", lambda _: types.SimpleNamespace(boxglue_version=version)
+    def message(self, number, named="lib.so"):
+        stand_in = types.SimpleNamespace(**({"boxglue_version": lambda: number} if number else {}))
+        with mock.patch.dict(os.environ, BOXGLUE_LIBRARY=named), mock.patch(
+            "ctypes.CDLL", lambda _: stand_in
         ), self.assertRaises(boxglue.BoxglueError) as caught:
             _library.library.__wrapped__()
         return str(caught.exception)
@@ -29,11 +29,14 @@ class Versions(unittest.TestCase):
             r"has version 1\.0\.0, and lacks boxglue_\w+: it is older than this package",
         )
 
+    def test_variable(self):
+        """A message says that the variable names the library, if it does."""
+        names = f"BOXGLUE_LIBRARY names {os.path.abspath('lib.so')}, which "
+        for number, why in ((20304, "has"), (10000, "has"), (None, "is not a library of boxglue")):
+            self.assertIn(names + why, self.message(number))
+            self.assertNotIn("BOXGLUE_LIBRARY", self.message(number, ""))
+
     def test_other_library(self):
-        with mock.patch("ctypes.CDLL", lambda _: types.SimpleNamespace()):
-            self.assertRaisesRegex(
-                boxglue.BoxglueError, "is not a library of boxglue", _library.library.__wrapped__
-            )
         with mock.patch.dict(os.environ, BOXGLUE_LIBRARY=__file__):
             self.assertRaisesRegex(
                 boxglue.BoxglueError, "is not a library of boxglue", _library.library.__wrapped__
