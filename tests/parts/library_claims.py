@@ -14,12 +14,12 @@ import tarfile
 import zipfile
 from functools import partial
 
-from common.files import content, write
+from common.files import content, read, write
 from common.library_build import compiler, rust_client
 from common.outcome import Wrong, need, without
 from common.part import in_turn
 from common.running import finished
-from parts.library_packages import LIMIT, cargo, compiled, line_of, outcome, run
+from parts.library_packages import BUILDS, LIMIT, cargo, compiled, line_of, outcome, run
 from tools.exports import calls
 from tools.unproved import SAYS
 from tools.version import dotted, number
@@ -255,6 +255,37 @@ def asked_in_rust(root, prefix, said, room):
     return said_at_run_time(root, prefix, room, [f"{room}/target/debug/client"], loader_path)
 
 
+def older_in_rust(root, prefix, said, room):
+    """What is wrong with crates over the calls of version 1.1.0, as an archive and as a shared
+    object: the build has to name a call that is not there. Without a library it has to succeed, as
+    for documentation."""
+    need("cargo", "ar")
+    rows = [it.split("\t") for it in read(f"{root}/tests/interface.tsv").splitlines()]
+    names = [
+        re.search(r" (boxglue_\w+)\(", it[1])[1] for it in rows if it[0] < "1.2" and "(" in it[1]
+    ]
+    write(f"{room}/old.c", "".join(f"unsigned {it}(void) {{ return 0; }}\n" for it in names))
+    folders = {"a": f"{room}/archive", "so": f"{room}/shared", "": f"{room}/none"}
+    for folder in folders.values():
+        os.mkdir(folder)
+    run([compiler(), "-shared", "-fPIC", "-o", "shared/libboxglue.so", "old.c"], room)
+    run([compiler(), "-c", "-o", "old.o", "old.c"], room)
+    run(["ar", "rcs", "archive/libboxglue.a", "old.o"], room)
+    crates = shutil.copytree(f"{root}/bindings/rust", f"{room}/crates", ignore=BUILDS)
+    for kind, folder in folders.items():
+        env = {"BOXGLUE_LIB_DIR": folder, "CARGO_TARGET_DIR": f"{room}/target"}
+        try:
+            cargo("check", crates, **env)
+            if kind:
+                return f"{folder}/libboxglue.{kind} is accepted"
+        except Wrong as wrong:
+            if not kind or f"{folder}/libboxglue.{kind} lacks boxglue_paint_bits: " not in str(
+                wrong
+            ):
+                return f"over {folder}: {wrong}"
+    return None
+
+
 def asked_in_python(root, prefix, said, room):
     """The same in Python, which is told by BOXGLUE_LIBRARY."""
     env_of = lambda library: {"BOXGLUE_LIBRARY": library, "PYTHONPATH": f"{root}/bindings/python"}
@@ -293,6 +324,7 @@ def cases(programs, root):
         "the wheel's metadata": metadata_wrong,
         "asked in C": asked_in_c,
         "asked in Rust": asked_in_rust,
+        "an older library in Rust": older_in_rust,
         "asked in Python": asked_in_python,
         "the loader of Python": loader_wrong,
     }

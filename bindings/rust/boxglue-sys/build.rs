@@ -1,6 +1,7 @@
 //! Finds libboxglue: in the folder that BOXGLUE_LIB_DIR names; else in the one that `./install --library` wrote into the file `libdir` beside this script;
 //! else by pkg-config. It links the archive libboxglue.a, so that a program needs no library where it runs; with BOXGLUE_SHARED=1, or without an archive, the shared object.
-//! Where docs.rs makes the documentation nothing is linked.
+//! A library of another version is refused. Where docs.rs makes the documentation nothing is linked.
+use std::collections::HashSet;
 use std::path::{Path, PathBuf};
 use std::process::Command;
 use std::{env, fs};
@@ -24,10 +25,19 @@ fn pkg_config(words: &[&str]) -> Option<String> {
     done.status.success().then(|| text.trim().to_string())
 }
 
-/// The folder of an installed library that is new enough. It is that of the flag -L, before which pkg-config puts PKG_CONFIG_SYSROOT_DIR, as it does not
+/// A call of this crate that a library lacks. An older library lacks some, and has structs of other sizes, which no linker finds. In an archive and in a
+/// shared object each name is a text between two bytes of 0. A library that is not there lacks nothing here: `cargo doc` and `cargo check` need none.
+fn lacking(library: &Path) -> Option<&'static str> {
+    let bytes = fs::read(library).ok()?;
+    let names: HashSet<&[u8]> = bytes.split(|it| *it == 0).collect();
+    let mut calls = include_str!("src/lib.rs").lines().filter_map(|it| it.strip_prefix("    pub fn ")?.split('(').next());
+    calls.find(|it| !names.contains(it.as_bytes()))
+}
+
+/// The folder of an installed library of a version that fits. It is that of the flag -L, before which pkg-config puts PKG_CONFIG_SYSROOT_DIR, as it does not
 /// before the variable libdir. A blank in it comes behind a backslash.
 fn asked() -> Option<PathBuf> {
-    pkg_config(&["--exists", concat!("boxglue >= ", env!("CARGO_PKG_VERSION"))])?;
+    pkg_config(&["--exists", concat!("boxglue >= ", env!("CARGO_PKG_VERSION")), "boxglue < 2"])?;
     let flag = pkg_config(&["--libs-only-L", "boxglue"])?;
     Some(PathBuf::from(flag.strip_prefix("-L")?.replace('\\', "")))
 }
@@ -53,7 +63,11 @@ fn main() {
     };
     let archive = folder.join("libboxglue.a");
     let is_static = archive.exists() && env::var("BOXGLUE_SHARED").as_deref() != Ok("1");
-    println!("cargo:rerun-if-changed={}", if is_static { archive } else { folder.join("libboxglue.so") }.display());
+    let library = if is_static { archive } else { folder.join("libboxglue.so") };
+    println!("cargo:rerun-if-changed={}", library.display());
+    if let Some(call) = lacking(&library) {
+        panic!("{} lacks {call}: it is older than this crate, which needs version {}", library.display(), env!("CARGO_PKG_VERSION"));
+    }
     println!("cargo:rustc-link-search=native={}", folder.display());
     println!("cargo:rustc-link-lib={}=boxglue", if is_static { "static" } else { "dylib" });
 }
