@@ -104,10 +104,12 @@ impl fmt::Display for Refusal {
             write!(out, "{}{} (line {})", if at == 0 { "; open lists: " } else { ", " }, it.form, it.line)?;
         }
         let adds_text = |it: &String| it.starts_with("text ") || it.starts_with("char ");
-        if self.kind() == RefusalKind::NoFont && self.command.as_ref().is_some_and(adds_text) {
-            out.write_str("; no font is current: `use` chooses one")?;
+        match (self.kind(), &self.command, self.line) {
+            (RefusalKind::NoFont, Some(it), _) if adds_text(it) => out.write_str("; no font is current: `use` chooses one"),
+            // Of a DVI file. With the name itself an `Error` would have 128 bytes or more, which clippy calls large in each caller.
+            (RefusalKind::NoFont, None, None) => out.write_str("; no metric file has the name of a font: `check` says which"),
+            _ => Ok(()),
         }
-        Ok(())
     }
 }
 

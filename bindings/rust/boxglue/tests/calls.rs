@@ -1,5 +1,5 @@
 //! The calls, on pages of one rule and on inputs that are refused.
-use boxglue::{check, fonts, listing, run, run_text, Cause, Error, Font, Job, ListForm, Refusal, RefusalKind, Sp, Target};
+use boxglue::{check, fonts, listing, marks, run, run_text, Cause, Error, Font, Job, ListForm, Refusal, RefusalKind, Sp, Target};
 
 const RULE: &str = "hbox into 0\nrule 1pt 1pt 0pt\nend\nship 0\n";
 
@@ -36,6 +36,11 @@ fn checks_of_files() {
     assert_eq!(check(&dvi, &plain), Ok(None));
     let missing = check(&dvi, &[]).unwrap().unwrap();
     assert_eq!((missing.kind, missing.missing.as_deref(), missing.font, missing.cause), (RefusalKind::NoFont, Some(&b"plain"[..]), None, None));
+    let said = "refused 4 NoFont; no metric file has the name of a font: `check` says which";
+    assert_eq!(listing(&dvi, &[]).unwrap_err().to_string(), said);
+    assert_eq!(marks(&dvi, &[]).unwrap_err().to_string(), said);
+    let of_a_command = run_text("use 7\n", &[]).unwrap().check().unwrap_err();
+    assert_eq!(of_a_command.to_string(), "line 1: refused 4 NoFont");
     let bad = check(&dvi, &[Font::new("plain", &metrics[..8])]).unwrap().unwrap();
     assert_eq!((bad.kind, bad.cause, bad.font, bad.place), (RefusalKind::BadTfm, Some(Cause::TooShort), Some(0), None));
     let cut = check(&dvi[..74], &plain).unwrap().unwrap();
