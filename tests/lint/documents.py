@@ -39,6 +39,13 @@ HASH = re.compile(r"\b(?=\d*[a-f])(?=[a-f]*\d)(?:[0-9a-f]{7,10}|[0-9a-f]{40})\b"
 # What README.md says beside TeX, in the sentence that links SPEED: a ratio, and of what.
 RATIO = re.compile(r"(\d+\.\d+) of (?:TeX's|its) (time|instructions|memory)\b")
 COLUMNS = {"time": "seconds", "instructions": "instructions", "memory": "memory"}
+# How README.md says the milliseconds of `start`, of which four are the goal.
+STARTS = {
+    1: "a millisecond",
+    2: "two milliseconds",
+    3: "three milliseconds",
+    4: "four milliseconds",
+}
 # The sentences of the manual page with figures: each has the units, the seconds and the megabytes
 # of a case. A page takes what more pages of a case take more.
 ON_MANUAL = (
@@ -230,6 +237,13 @@ def speed_of_readme(root):
     return f"README.md says {' and '.join(wrong)}, docs/speed.tsv another ratio" if wrong else None
 
 
+def start_of_readme(root):
+    """Whether README.md rounds what `start` takes to whole milliseconds."""
+    seconds = float(measured(root)["start", "boxglue"]["seconds"])
+    line = f"The program starts in {STARTS[round(1000 * seconds)]} "
+    return None if line in read(f"{root}/README.md") else f"README.md does not say {line!r}"
+
+
 def figures_of_manual(root):
     """What the manual page says of time and memory that is not docs/speed.tsv, rounded."""
     page, rows = read(f"{root}/docs/boxglue.1"), measured(root)
@@ -314,6 +328,7 @@ def cases(_programs, root):
     checks |= {"lengths": lengths, "nothing twice": said_twice, "hashes": hashes, "speed": speed}
     checks |= {
         "speed in README.md": speed_of_readme,
+        "start in README.md": start_of_readme,
         "figures of the manual page": figures_of_manual,
     }
     checks |= {"figures with a source": figures_with_source}
