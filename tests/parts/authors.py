@@ -260,7 +260,7 @@ def times(root):
     gate, readme = read(f"{root}/docs/internal/GATE.md"), read(f"{root}/README.md")
     minutes, hours = (round(int(re.search(it, gate)[1]) / 60) for it in MEASURED)
     said = (
-        f"in {SMALL[minutes]} minutes on four free cores",
+        f"in {SMALL[minutes]} minutes on four cores",
         f"in {'an hour' if hours == 1 else f'{SMALL[hours]} hours'} on four cores",
     )
     lost = [it for it in said if it not in readme]
