@@ -1,7 +1,8 @@
 """Callers of the library for C: those of docs/LIBRARY.md, in C, Python and Rust, and of
-examples/library compile and give the page of one rule; the tests of the binding for Python pass;
-the client of examples/markdown makes a page, and a book; the driver of examples/library draws a
-page; and through the header a pointer with the size 0 may be null, in C and C++."""
+examples/library compile and give the page of one rule; the examples of docs/boxglue.3, of
+include/boxglue_typed.h and of the packages' README.md run; the tests of the binding for Python
+pass; the client of examples/markdown makes a page, and a book; the driver of examples/library draws
+a page; and through the header a pointer with the size 0 may be null, in C and C++."""
 import os
 import re
 import tempfile
@@ -17,7 +18,7 @@ from common.running import finished
 from common.texts import last_lines
 from models.plain_font import metric_file
 
-TITLE = "callers of the library for C: docs/LIBRARY.md, examples/library, bindings/python, examples/markdown"
+TITLE = "callers of the library for C: docs/LIBRARY.md, docs/boxglue.3, boxglue_typed.h, examples/library, bindings/python, README.md of the packages, examples/markdown"
 PROGRAM = "library"
 NEEDS_PROGRAM = True
 SPLIT = in_turn(4)
@@ -67,6 +68,28 @@ def text_of(root, name):
     return found
 
 
+def readme_of(root, package, language):
+    """The one block in a language of a package's README.md."""
+    text = read(f"{root}/bindings/{package}/README.md")
+    (found,) = re.findall(rf"(?ms)^```{language}\n(.*?)^```$", text)
+    return found
+
+
+def example_of_manual(root):
+    """The program of docs/boxglue.3, without the escapes of roff."""
+    text = read(f"{root}/docs/boxglue.3").partition("\n.SH EXAMPLES\n")[2]
+    (found,) = re.findall(r"(?ms)^\.nf\n(.*?)^\.fi$", text)
+    return found.replace("\\e", "\\").replace("\\-", "-")
+
+
+def example_of_header(root):
+    """A program of the lines in the first comment of include/boxglue_typed.h."""
+    comment = read(f"{root}/include/boxglue_typed.h").partition("*/")[0]
+    lines = re.findall(r"(?m)^ \*     (.*)$", comment)
+    head = ['#include "boxglue_typed.h"', "#include <stdio.h>", "int main(void) {"]
+    return "\n".join([*head, *lines, "return (int)status;", "}", ""])
+
+
 def run_wrong(words, env=None, wanted=WANTED, folder=None, given=b""):
     """Runs a command, and says what is wrong, or returns None."""
     ran = finished(words, env=env, cwd=folder, input=given, timeout=LIMIT)
@@ -87,6 +110,10 @@ def compiled_in_c(text, root, archive, folder, wanted=WANTED):
     return compile_c(root, archive, [f"{folder}/caller.c"], f"{folder}/caller", []) or run_wrong(
         [f"{folder}/caller"], folder=folder, wanted=wanted
     )
+
+
+def example_in_c(text, wanted, root, archive, folder):
+    return compiled_in_c(text(root), root, archive, folder, wanted)
 
 
 def caller_in_c(name, wanted, root, archive, folder):
@@ -116,12 +143,37 @@ def caller_in_python(root, archive, folder):
     return run_wrong(words, env, wanted, folder)
 
 
-def caller_in_rust(root, archive, folder):
+def run_in_rust(text, wanted, root, archive, folder):
     need("cargo")
-    words = rust_client(folder, f"{root}/bindings/rust/boxglue", text_of(root, "rs"))
+    words = rust_client(folder, f"{root}/bindings/rust/boxglue", text)
     env = {**os.environ, "BOXGLUE_LIB_DIR": folder, "CARGO_TARGET_DIR": f"{folder}/target"}
     build = [f"{root}/bindings/build", "--static", archive, f"{folder}/libboxglue.a"]
-    return run_build(build) or run_wrong(words, env, b"1.0pt\nend: pages 1 bytes 116\n")
+    return run_build(build) or run_wrong(words, env, wanted, folder)
+
+
+def caller_in_rust(root, *words):
+    return run_in_rust(text_of(root, "rs"), b"1.0pt\nend: pages 1 bytes 116\n", root, *words)
+
+
+def readme_in_python(root, archive, folder):
+    """The example of the package for Python, over plain metrics. Its five letters are 6pt wide; its
+    space is a third of 12pt, and 1 sp less as the file has it."""
+    write(f"{folder}/cmr10.tfm", metric_file())
+    write(f"{folder}/caller.py", readme_of(root, "python", "python"))
+    words, env = python_words(root, archive, [f"{folder}/caller.py"])
+    wanted = b"2228223\n0 Glyph(h=0, v=550502, font=0, code=65, width=393216)\n"
+    return run_wrong(words, env, wanted, folder)
+
+
+def readme_in_rust(root, archive, folder):
+    """The example of the crate, over the same metrics, makes a page. Its line depends on the
+    library, which may be proved or not."""
+    write(f"{folder}/cmr10.tfm", metric_file())
+    wrong = run_in_rust(readme_of(root, "rust/boxglue", "rust"), None, root, archive, folder)
+    if wrong:
+        return wrong
+    pages = pages_of(f"{folder}/page.dvi")
+    return None if pages == 1 else f"the file has {pages} pages"
 
 
 def null_pointers(language, root, archive, folder):
@@ -242,6 +294,10 @@ def cases(programs, root):
         "examples/library/job.c, refused": partial(refused_in_c, "job.c", *scripts),
         "LIBRARY.md in Python": caller_in_python,
         "LIBRARY.md in Rust": caller_in_rust,
+        "boxglue(3)": partial(example_in_c, example_of_manual, WANTED + b"116 bytes\n"),
+        "boxglue_typed.h": partial(example_in_c, example_of_header, b"65536 sp wide\n"),
+        "README.md in Python": readme_in_python,
+        "README.md in Rust": readme_in_rust,
         "tests of bindings/python": partial(binding, "test_*.py"),
         "types of bindings/python": types_of_binding,
         "marks of bindings/python in numpy": marks_in_numpy,
