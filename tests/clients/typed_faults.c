@@ -44,6 +44,7 @@ static void numbers_of_calls(void) {
     NUMBER(boxglue_do_count(&page, 10, 0));
     NUMBER(boxglue_do_set_number(&page, BOXGLUE_FIRSTLINES, 33));
     NUMBER(boxglue_do_set_number(&page, BOXGLUE_TOLERANCE, -500000001));
+    NUMBER(boxglue_do_set_dimension(&page, (enum boxglue_dimension_parameter)7, 0));
     NUMBER(boxglue_do_load(&page, -1, "x", 0));
     NUMBER(boxglue_do_load(&page, 0, "x", 1 << 27));
     NUMBER(boxglue_do_load(&page, 0, "x", -1));
@@ -59,6 +60,44 @@ static void numbers_of_calls(void) {
     glue.plus = 0;
     glue.minus_order = 4;
     NUMBER(boxglue_do_set_glue(&page, BOXGLUE_PARFILLSKIP, &glue));
+#ifndef __cplusplus /* whose enums hold no such numbers */
+    glue.minus_order = BOXGLUE_NORMAL;
+    NUMBER(boxglue_do_set_glue(&page, (enum boxglue_glue_parameter)4, &glue));
+    NUMBER(boxglue_do_set_number(&page, (enum boxglue_number_parameter)8, 0));
+#endif
+}
+
+/* A call that is sent, and refused because there is no font. */
+#define NO_FONT(call) EXPECT((call) == BOXGLUE_REFUSED && page.reply.refusal == BOXGLUE_REFUSAL_NO_FONT && page.fault == BOXGLUE_FAULT_NONE)
+#define SENT(call) EXPECT((call) == BOXGLUE_ACCEPTED && page.fault == BOXGLUE_FAULT_NONE)
+
+/* The last numbers that a script may have are sent. The kerns are 0 together. */
+static void limits_of_calls(void) {
+    static const boxglue_sp MOST = (1 << 30) - 1;
+    static const int32_t LEAST = -2147483647 - 1;
+    char name[257];
+    struct boxglue_glue glue = {MOST, MOST, -MOST, BOXGLUE_FILLL, BOXGLUE_NORMAL};
+    memset(name, 'x', sizeof name);
+    name[256] = 0;
+    FAULT(boxglue_do_load(&page, 255, name, (1 << 27) - 1), BOXGLUE_FAULT_NAME, 0);
+    name[255] = 0;
+    NO_FONT(boxglue_do_load(&page, 255, name, (1 << 27) - 1));
+    NO_FONT(boxglue_do_load(&page, 0, "x", 1));
+    NO_FONT(boxglue_do_use(&page, 255));
+    NO_FONT(boxglue_do_use(&page, 0));
+    NO_FONT(boxglue_do_char(&page, 255));
+    SENT(boxglue_do_kern(&page, MOST));
+    SENT(boxglue_do_kern(&page, -MOST));
+    SENT(boxglue_do_penalty(&page, 500000000));
+    SENT(boxglue_do_penalty(&page, -500000000));
+    SENT(boxglue_do_void(&page, 32767));
+    SENT(boxglue_do_set_number(&page, BOXGLUE_FIRSTLINES, 32));
+    SENT(boxglue_do_set_number(&page, BOXGLUE_FIRSTLINES, 0));
+    SENT(boxglue_do_set_number(&page, BOXGLUE_TOLERANCE, -500000000));
+    SENT(boxglue_do_set_number(&page, BOXGLUE_TOLERANCE, 500000000));
+    SENT(boxglue_do_count(&page, 9, LEAST));
+    SENT(boxglue_do_count(&page, 0, 2147483647));
+    SENT(boxglue_do_set_glue(&page, BOXGLUE_PARFILLSKIP, &glue));
 }
 
 static void bytes_of_texts(void) {
@@ -67,6 +106,8 @@ static void bytes_of_texts(void) {
     FAULT(boxglue_do_text(&page, inject, sizeof inject - 1), BOXGLUE_FAULT_BYTE, 1);
     FAULT(boxglue_do_special(&page, wide, sizeof wide - 1), BOXGLUE_FAULT_BYTE, 2);
     FAULT(boxglue_do_text(&page, "a\0b", 3), BOXGLUE_FAULT_BYTE, 1);
+    FAULT(boxglue_do_text(&page, "ab\x1f", 3), BOXGLUE_FAULT_BYTE, 2);
+    FAULT(boxglue_do_special(&page, "a\x7f", 2), BOXGLUE_FAULT_BYTE, 1);
     FAULT(boxglue_do_load(&page, 0, "a b", 0), BOXGLUE_FAULT_BYTE, 1);
     FAULT(boxglue_do_load(&page, 0, "ab\nship", 0), BOXGLUE_FAULT_BYTE, 2);
     FAULT(boxglue_do_load(&page, 0, "", 0), BOXGLUE_FAULT_NAME, 0);
@@ -123,17 +164,43 @@ static void replies(void) {
     EXPECT(boxglue_do_end(&page) == BOXGLUE_ACCEPTED && page.reply.kind == BOXGLUE_REPLY_PACKED && page.reply.box.width == BOXGLUE_PT(3) + 1);
     EXPECT(boxglue_do_measure(&page, 0) == BOXGLUE_ACCEPTED && page.reply.kind == BOXGLUE_REPLY_MEASURED && page.reply.box_kind == BOXGLUE_BOX_HORIZONTAL);
     EXPECT(boxglue_do_ship(&page, 0) == BOXGLUE_ACCEPTED && page.reply.kind == BOXGLUE_REPLY_SHIPPED && page.reply.count == 1);
-    EXPECT(boxglue_do_finish(&page) == BOXGLUE_ACCEPTED && page.reply.kind == BOXGLUE_REPLY_END && page.reply.count == 1);
+    NUMBER(boxglue_do_ship(&page, 32768));
+    EXPECT(page.reply.kind == BOXGLUE_REPLY_SHIPPED); /* that of the last command that was run */
+    EXPECT(boxglue_do_finish(&page) == BOXGLUE_ACCEPTED && page.reply.kind == BOXGLUE_REPLY_END && page.reply.count == 1 && page.fault == BOXGLUE_FAULT_NONE);
+}
+
+/* The first and the last name of each kind, and numbers that are none. */
+static void names(void) {
+    static const uint32_t DVI = BOXGLUE_DVI_RANGE, TFM = BOXGLUE_TFM_LIG_KERN, REFUSAL = BOXGLUE_REFUSAL_TOO_MUCH_SPECIAL;
+    EXPECT(!strcmp(boxglue_refusal_name(1), "OutOfMemory") && !strcmp(boxglue_refusal_name(REFUSAL), "TooMuchSpecial"));
+    EXPECT(!strcmp(boxglue_bad_dvi_name(1), "Trailer") && !strcmp(boxglue_bad_dvi_name(DVI), "Range"));
+    EXPECT(!strcmp(boxglue_bad_tfm_name(1), "TooShort") && !strcmp(boxglue_bad_tfm_name(TFM), "LigKern"));
+    EXPECT(!strcmp(boxglue_refusal_name(0), "unknown") && !strcmp(boxglue_refusal_name(REFUSAL + 1), "unknown"));
+    EXPECT(!strcmp(boxglue_bad_dvi_name(0), "unknown") && !strcmp(boxglue_bad_dvi_name(DVI + 1), "unknown"));
+    EXPECT(!strcmp(boxglue_bad_tfm_name(0), "unknown") && !strcmp(boxglue_bad_tfm_name(TFM + 1), "unknown"));
+    EXPECT(!strcmp(boxglue_status_text(BOXGLUE_ANSWERS_LOST + 1), "not a status of boxglue"));
+}
+
+/* A font without a name makes no job. */
+static void bad_font_name(void) {
+    static const uint8_t byte = 0;
+    struct boxglue_font font = {&byte, 0, &byte, 0};
+    struct boxglue_typed other;
+    EXPECT(boxglue_typed_new(&other, &font, 1) == BOXGLUE_BAD_FONT_NAME && boxglue_do_kern(&other, 1) == BOXGLUE_NO_JOB);
+    boxglue_typed_free(&other);
 }
 
 int main(void) {
     EXPECT(boxglue_typed_new(&page, NULL, 0) == BOXGLUE_ACCEPTED);
     EXPECT(boxglue_do_hbox(&page, BOXGLUE_NATURAL, 0, 0) == BOXGLUE_ACCEPTED);
     numbers_of_calls();
+    limits_of_calls();
     bytes_of_texts();
     null_handles();
     long_texts();
     replies(); /* whose first one shows that none of the refused calls was sent */
+    names();
+    bad_font_name();
     boxglue_typed_free(&page);
     boxglue_typed_free(&page);
     EXPECT(boxglue_do_kern(&page, 1) == BOXGLUE_NO_JOB);

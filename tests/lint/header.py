@@ -31,6 +31,7 @@ REFUSALS = "crates/boxglue_program/src/refusals.rt"
 STATUSES_OF_PYTHON = "bindings/python/boxglue/_status.py"
 REPLIES_OF_PYTHON = "bindings/python/boxglue/_replies.py"
 RUST = "bindings/rust/boxglue-sys/src/lib.rs"
+NAMES_OF_RUST = ("bindings/rust/boxglue/src/names.rs", "bindings/rust/boxglue/src/replies.rs")
 CALLS_OF_C = "#ifndef BOXGLUE_NO_INLINE"
 # The calls, structs and numbers of the header, each with the version that added it. A version that
 # CHANGELOG.md dates is released, and has a row with the digest of its rows. A row that is gone goes
@@ -278,6 +279,25 @@ def rust(root):
     )
 
 
+def names_of_rust(root):
+    """What is wrong with the names of refusals and of their causes in bindings/rust: each is that
+    of its number, and each number has one."""
+    constant = r"sys::BOXGLUE_((?:REFUSAL|TFM|DVI|LINE)_\w+)"
+    for path in NAMES_OF_RUST:
+        text = read(f"{root}/{path}")
+        pairs = re.findall(rf'{constant} => (?:Cause::|")(\w+)', text)
+        pairs += [(number, name) for name, number in re.findall(rf"(\w+) = {constant}", text)]
+        groups = {number.partition("_")[0] for number, _ in pairs}
+        kinds = re.findall(rf"BOXGLUE_((?:{'|'.join(groups)})_\w+) = \d+", declared(root))
+        # No command is refused for a DVI file.
+        wanted = [it for it in kinds if it != "REFUSAL_BAD_DVI" or it in dict(pairs)]
+        found = [f"{number.partition('_')[0]}_{spelled(name)}" for number, name in pairs]
+        wrong = compared(path, sorted(found), "the header", sorted(wanted))
+        if wrong or found != [number for number, _ in pairs]:
+            return wrong or f"{path}: a name is that of another number: {pairs}"
+    return None
+
+
 # Prints the structs, the calls and the numbers of the binding for Python as C declares them. It
 # loads no library.
 PRINT_PYTHON = """
@@ -486,5 +506,5 @@ def cases(_programs, root):
     """A case for each kind of declaration."""
     of_c = functions, null_calls, structs, statuses, reply_kinds, numbers_of_replies, status_texts
     versions = version, new_version, other_places, interface, new_call
-    for check in (*of_c, refusal_names, rust, python, *versions):
+    for check in (*of_c, refusal_names, rust, names_of_rust, python, *versions):
         yield check.__name__, partial(check, root)
