@@ -244,7 +244,10 @@ class EachCommand(unittest.TestCase):
         for call in (
             lambda: job.kern(big),
             lambda: job.kern(-big),
+            lambda: job.rule(big, 0, 0),
             lambda: job.rule(0, big, 0),
+            lambda: job.rule(0, 0, big),
+            lambda: job.rule(-big, 0, 0),
             lambda: job.glue(0, plus=big),
             lambda: job.glue(0, (16384, "fil")),
             lambda: job.glue(0, ("1e3", "fil")),
@@ -274,6 +277,28 @@ class EachCommand(unittest.TestCase):
         ):
             self.assertRaises(ValueError, call)
         self.assertEqual(job.void(0), Ok(1))
+
+    def test_last_numbers(self):
+        """The last numbers of each range are sent."""
+        job, most = job_of(self), (1 << 30) - 1
+        for call in (
+            lambda: job.use(255),
+            lambda: job.load("x" * 255, at=(1 << 27) - 1, slot=255),
+            lambda: job.load("x", at=1),
+        ):
+            self.assertRaisesRegex(boxglue.Refused, "NoFont", call)
+        job.set(firstlines=32, tolerance=500_000_000, pretolerance=-500_000_000, hsize=most)
+        job.count(9, -1 << 31)
+        job.count(0, (1 << 31) - 1)
+        with job.hbox(to=most, into=32_767) as box:
+            for kern in (most, -most):
+                job.kern(kern)
+            for penalty in (500_000_000, -500_000_000):
+                job.penalty(penalty)
+            job.glue(most, (Fraction(most, PT), "filll"), -most)
+            job.rule(-most, most, -most)
+            self.assertRaisesRegex(boxglue.Refused, "NoFont: 'char 255'", job.char, 255)
+        self.assertEqual((box.width, job.measure(32_767).height), (most, most))
 
     def test_wrong_types(self):
         """A float is not a dimension, even where it is whole; a text is none either."""

@@ -2,6 +2,7 @@
 of 5.25pt, as examples/plain-metrics makes them; those of letters have ligatures and kerns."""
 
 import os
+import struct
 import tempfile
 import unittest
 
@@ -29,6 +30,15 @@ def shown(job, register):
         for it in job.inspect(register).walk()
         if isinstance(it, boxglue.GlyphItem)
     ]
+
+
+def slanted():
+    """A metric file of `a` and `f`, whose italic corrections are an eighth and a quarter of the
+    design size."""
+    counts = 21, 2, 97, 102, 2, 1, 1, 3, 0, 0, 0, 0
+    letters_there = 1 << 24 | 1 << 10, 0, 0, 0, 0, 1 << 24 | 2 << 10
+    tables = 0, 1 << 19, 0, 0, 0, 1 << 17, 1 << 18
+    return struct.pack(">12H15I", *counts, 0, 10 << 20, *letters_there, *tables)
 
 
 class Folder(unittest.TestCase):
@@ -129,13 +139,9 @@ class Families(Folder):
 
     def test_italic_correction(self):
         """It is what the metric file has for the last letter."""
-        name, data = "cmti10", letters()["letters"]
-        fonts = self.fonts_of({name: data})
-        its = boxglue.metrics(data, pt(10)).characters
-        for letter in "fT":
-            has = fonts.italic_correction(f"a{letter}", Style(italic=True))
-            self.assertEqual(has, its[ord(letter)].italic)
-        self.assertEqual(fonts.italic_correction("", Style(italic=True)), 0)
+        fonts = self.fonts_of({"cmti10": slanted()})
+        for text, wanted in (("fa", "1.25"), ("af", "2.5"), ("", 0)):
+            self.assertEqual(fonts.italic_correction(text, Style(italic=True)), pt(wanted))
 
     def test_slots_of_jobs(self):
         """A font has its slot in the next job, in whatever order it is used."""

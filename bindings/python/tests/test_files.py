@@ -1,9 +1,16 @@
 """Tests of DVI files that are listed, painted and asked for their fonts."""
+import struct
 import unittest
 
 import boxglue
 
 from .samples import RULE, TEXT, plain
+
+
+def metrics_of_width(width):
+    """A metric file of one character, `a`, of this width in 2^20ths of the design size."""
+    counts = 14, 2, 97, 97, 2, 1, 1, 1, 0, 0, 0, 0
+    return struct.pack(">12H8I", *counts, 0, 10 << 20, 1 << 24, 0, width, 0, 0, 0)
 
 
 class Pages(unittest.TestCase):
@@ -51,6 +58,20 @@ class Pages(unittest.TestCase):
             9,
         )
         self.assertRaises(boxglue.BadFontName, boxglue.check, dvi, {"": b""})
+
+    def test_check_of_a_large_font(self):
+        """A metric file that is too large at the size of its font."""
+        script = "font 9 a at 2047pt\nuse 9\nhbox into 0\nchar 97\nend\nship 0\n"
+        dvi = boxglue.run(script, {"a": metrics_of_width(1 << 19)}).check().dvi
+        found = boxglue.check(dvi, {"a": metrics_of_width((1 << 24) - 1)})
+        self.assertEqual(found, boxglue.Fault("DimensionTooLarge", 3, font=9))
+
+    def test_check_of_a_long_name(self):
+        """The longest name that a font may have is given whole."""
+        name = "n" * 255
+        script = f"font 0 {name}\nuse 0\nhbox into 0\nchar 97\nend\nship 0\n"
+        dvi = boxglue.run(script, {name: metrics_of_width(1 << 19)}).check().dvi
+        self.assertEqual(boxglue.check(dvi), boxglue.Fault("NoFont", 4, missing=name))
 
     def test_bitmap(self):
         bitmap = boxglue.paint(self.dvi, width=4, height=3)
