@@ -1,5 +1,6 @@
 //! The calls, on pages of one rule and on inputs that are refused.
-use boxglue::{check, fonts, listing, marks, run, run_text, Cause, Error, Font, Job, ListForm, Refusal, RefusalKind, Sp, Target};
+use boxglue::{check, fonts, listing, marks, paint, run, run_text, version};
+use boxglue::{Cause, Error, Font, Job, ListForm, PaintOptions, Refusal, RefusalKind, Sp, Target};
 
 const RULE: &str = "hbox into 0\nrule 1pt 1pt 0pt\nend\nship 0\n";
 
@@ -22,8 +23,13 @@ fn a_file_that_is_cut() {
 
 /// A metric file of one character, `a`, of half its design size.
 fn metrics_of_a() -> Vec<u8> {
+    metrics_of_width(1 << 19)
+}
+
+/// The same with another width, in 2^20ths of the design size.
+fn metrics_of_width(width: u32) -> Vec<u8> {
     let counts = [14_u16, 2, 97, 97, 2, 1, 1, 1, 0, 0, 0, 0];
-    let words = [0_u32, 10 << 20, 1 << 24, 0, 1 << 19, 0, 0, 0];
+    let words = [0_u32, 10 << 20, 1 << 24, 0, width, 0, 0, 0];
     counts.iter().flat_map(|it| it.to_be_bytes()).chain(words.iter().flat_map(|it| it.to_be_bytes())).collect()
 }
 
@@ -46,6 +52,83 @@ fn checks_of_files() {
     let cut = check(&dvi[..74], &plain).unwrap().unwrap();
     assert_eq!((cut.kind, cut.cause, cut.place, cut.missing), (RefusalKind::BadDvi, Some(Cause::Trailer), Some(74), None));
     assert_eq!(check(&dvi, &[Font::new("", b"")]), Err(Error::BadFontName));
+}
+
+/// A metric file that is too large at the size of its font, and one that is bad: the font is that of its slot.
+#[test]
+fn a_font_of_number_9() {
+    let (metrics, wide) = (metrics_of_a(), metrics_of_width((1 << 24) - 1));
+    let script = "font 9 plain at 2047pt\nuse 9\nhbox into 0\ntext a\nend\nship 0\n";
+    let dvi = run(script, &[Font::new("plain", &metrics)]).unwrap().check().unwrap().dvi;
+    let large = check(&dvi, &[Font::new("plain", &wide)]).unwrap().unwrap();
+    assert_eq!((large.kind, large.cause, large.font, large.place, large.missing), (RefusalKind::DimensionTooLarge, None, Some(9), None, None));
+    let bad = check(&dvi, &[Font::new("plain", &metrics[..8])]).unwrap().unwrap();
+    assert_eq!((bad.kind, bad.font), (RefusalKind::BadTfm, Some(9)));
+}
+
+/// The longest name that a font may have is given whole.
+#[test]
+fn a_missing_font_of_255_bytes() {
+    let (metrics, name) = (metrics_of_a(), "n".repeat(255));
+    let script = format!("font 0 {name}\nuse 0\nhbox into 0\ntext a\nend\nship 0\n");
+    let dvi = run(script, &[Font::new(&name, &metrics)]).unwrap().check().unwrap().dvi;
+    assert_eq!(check(&dvi, &[]).unwrap().unwrap().missing.as_deref(), Some(name.as_bytes()));
+}
+
+/// More fonts than the first buffer of the call has room for.
+#[test]
+fn seventy_fonts() {
+    let (metrics, mut script) = (metrics_of_a(), String::from("hbox into 0\n"));
+    for slot in 0..70 {
+        script += &format!("font {slot} plain at {}sp\nuse {slot}\ntext a\n", 655_360 + slot);
+    }
+    let dvi = run(script + "end\nship 0\n", &[Font::new("plain", &metrics)]).unwrap().check().unwrap().dvi;
+    let found: Vec<_> = fonts(&dvi).unwrap().into_iter().map(|it| (it.number, it.name, it.size)).collect();
+    assert_eq!(found, (0..70).map(|slot| (slot, b"plain".to_vec(), 655_360 + slot)).collect::<Vec<_>>());
+}
+
+/// A square of an inch whose lower left corner is an inch below the origin, at a pixel an inch.
+#[test]
+fn a_bitmap_that_is_wider_than_high() {
+    let dvi = run("hbox into 0\nrule 1in 1in 0pt\nend\nship 0\n", &[]).unwrap().dvi;
+    let sheet = PaintOptions { page: 1, dpi: 1, width: 3, height: 2 };
+    assert_eq!(paint(&dvi, &[], sheet).unwrap(), "P1\n3 2\n000\n100\n");
+    assert_eq!(paint(&dvi, &[], PaintOptions { width: 10_001, ..sheet }), Err(Error::OutOfRange));
+}
+
+/// 20,000 rules in a file that is longer than the first buffer, which a short script makes: it is run again, and a job hands the file over whole.
+#[test]
+fn a_file_that_is_long_for_its_script() {
+    let page = format!("hbox into 1\n{}end\nship 1\n", "unhcopy 0\n".repeat(20));
+    let script = format!("hbox into 0\n{}end\n{}", "rule 1pt 1pt 0pt\n".repeat(100), page.repeat(10));
+    let (ran, texts) = (run(&script, &[]).unwrap().check().unwrap(), run_text(&script, &[]).unwrap().check().unwrap());
+    assert!(ran.dvi.len() > 2 * script.len() && ran.dvi.len() > 1 << 17);
+    assert_eq!(listing(&ran.dvi, &[]).unwrap().lines().count(), 20_010);
+    let mut job = Job::new(&[]).unwrap();
+    job.commands(&script).unwrap().check().unwrap();
+    job.finish().unwrap().answer.unwrap();
+    assert!(job.take().unwrap() == ran.dvi && texts.dvi == ran.dvi);
+}
+
+#[test]
+fn the_version_is_that_of_the_crate() {
+    assert_eq!(version(), env!("CARGO_PKG_VERSION"));
+}
+
+/// 300 jobs with a font of a mebibyte need the memory of one: the resident pages, of 4 KiB each, of which other tests take some.
+#[cfg(target_os = "linux")]
+#[test]
+fn a_dropped_job_frees_its_memory() {
+    let resident = || -> usize {
+        let text = std::fs::read_to_string("/proc/self/statm").unwrap();
+        text.split(' ').nth(1).unwrap().parse().unwrap()
+    };
+    let (before, metrics) = (resident(), vec![1; 1 << 20]);
+    for _ in 0..300 {
+        drop(Job::new(&[Font::new("x", &metrics)]).unwrap());
+    }
+    let after = resident();
+    assert!(after < before + 40_000, "{before} and then {after} pages");
 }
 
 #[test]

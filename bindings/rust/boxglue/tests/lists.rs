@@ -131,6 +131,28 @@ fn nothing_is_sent() {
     assert_eq!(job.finish().unwrap().to_string(), "end: pages 0 bytes 0");
 }
 
+/// The last numbers that scripts have are sent.
+#[test]
+fn limits_of_calls() {
+    let mut job = job();
+    let (name, largest) = ("x".repeat(255), Sp((1 << 27) - 1));
+    for refused in [job.load(255, &name, Some(largest)), job.load(0, "x", Some(Sp(1))), job.use_font(255)] {
+        assert_eq!(kind(refused.unwrap_err()), RefusalKind::NoFont);
+    }
+    assert_eq!((job.void(32_767), job.count(9, i32::MIN), job.count(0, i32::MAX)), (Ok(()), Ok(()), Ok(())));
+    for it in [-500_000_000, 500_000_000] {
+        assert_eq!(job.set(Parameter::Tolerance(it)), Ok(()));
+    }
+    for parameter in [Parameter::Firstlines(32), Parameter::Hsize(Sp::MAX), Parameter::Hsize(-Sp::MAX)] {
+        assert_eq!(job.set(parameter), Ok(()));
+    }
+    let mut list = job.hbox(32_767, Target::To(Sp::MAX)).unwrap();
+    assert_eq!((list.penalty(500_000_000), list.penalty(-500_000_000), list.kern(Sp::MAX), list.kern(-Sp::MAX)), (Ok(()), Ok(()), Ok(()), Ok(())));
+    let Err(Error::Refused(refusal)) = list.char(255) else { panic!() };
+    assert_eq!((refusal.kind(), refusal.command.as_deref()), (RefusalKind::NoFont, Some("char 255")));
+    assert_eq!(list.end().unwrap().sizes.width, Sp::MAX.0);
+}
+
 #[test]
 fn refusals_have_their_command() {
     let mut job = job();

@@ -98,6 +98,15 @@ fn marks_are_the_listing() {
     assert_eq!(marks(&ran.dvi[..74], &[]).unwrap_err(), listing(&ran.dvi[..74], &[]).unwrap_err());
 }
 
+/// Each page has its own counts, even without marks.
+#[test]
+fn counts_of_empty_pages() {
+    let script: String = [7, -8, i32::MIN].iter().map(|it| format!("count 9 {it}\nhbox into 0\nend\nship 0\n")).collect();
+    let dvi = run(script, &[]).unwrap().check().unwrap().dvi;
+    let found: Vec<_> = marks(&dvi, &[]).unwrap().pages().map(|it| (it.counts()[9], it.marks().len())).collect();
+    assert_eq!(found, [(7, 0), (-8, 0), (i32::MIN, 0)]);
+}
+
 #[test]
 fn a_glyph_and_its_font() {
     let metrics = [Font::new("plain", &METRICS)];
