@@ -102,6 +102,20 @@ def large_file(root, archive=None, *_programs):
     return None
 
 
+def limits(root, archive=None, *_programs):
+    """Bitmaps of 10,000 pixels in one direction, and at the most pixels an inch."""
+    data = dvi_file([Page([down(PT), put_rule(PT, PT)])], PT, PT).data
+    with tempfile.TemporaryDirectory(prefix="boxglue-library-") as path:
+        room = Room(path, Input("", b""))
+        room.write("out.dvi", data)
+        for sheet in ((72, 10000, 1), (72, 1, 10000), (10000, 150, 300)):
+            printed = run_calls(
+                root, archive, room, ["paint_bits", "1", *map(str, sheet), "out.dvi"]
+            )
+            same("{1} by {2} pixels at {0} dpi".format(*sheet), printed, wanted(data, {}, sheet))
+    return None
+
+
 def numbers(root, archive=None, *_programs):
     """Numbers out of their range, and a page that is not there."""
     with tempfile.TemporaryDirectory(prefix="boxglue-library-") as path:
@@ -121,8 +135,8 @@ def numbers(root, archive=None, *_programs):
 
 
 def cases(programs, root):
-    """The inputs, one of them on a large sheet, a file without its end, a large file, and
-    numbers."""
+    """The inputs, one of them on a large sheet, a file without its end, a large file, and numbers
+    at their limits and beyond."""
     inputs = {given.name: given for given in all_inputs(root)}
     for name, given in inputs.items():
         yield name, partial(outcome, SHEETS, bytes, given, root, *programs)
@@ -131,4 +145,5 @@ def cases(programs, root):
     first, cut_off = next(iter(inputs.values())), lambda data: data[:-9]
     yield "a_file_without_its_end", partial(outcome, SHEETS, cut_off, first, root, *programs)
     yield "a_file_above_64_KiB", partial(large_file, root, *programs)
+    yield "limits", partial(limits, root, *programs)
     yield "numbers", partial(numbers, root, *programs)

@@ -12,8 +12,8 @@ from common.texts import first_difference, last_lines
 from models import large_inputs
 from models.dvi_writer import Font, Page, changed, definition, down, dvi_file, number, page_file
 from models.dvi_writer import put_rule, right, select, set_char
-from models.large_inputs import C, FONTS_OF_RULES, NO_PAGES, PT, SHIPPED, TINY, ended, listed_page
-from models.large_inputs import rows_of, rules_file, summary, talk
+from models.large_inputs import C, FONTS_OF_RULES, NO_PAGES, PT, SHIPPED, TINY, bitmap, ended
+from models.large_inputs import listed, listed_page, rows_of, rules_file, summary, talk
 from parts.library_calls import made_in_c, made_in_python, differs, printed
 
 TITLE = "the library for C: many fonts and definitions, large files, long answers, refused files"
@@ -83,6 +83,12 @@ def definitions_of_another_program():
     return Calls({"f.dvi": file.data}, [fonts_call("f.dvi", fonts), listing])
 
 
+def long_names():
+    """300 definitions with names of 255 bytes: 76,500 bytes of names."""
+    fonts = [Font(at, b"%03d" % at * 85, 1 + at) for at in range(300)]
+    return Calls({"f.dvi": page_file([], fonts=fonts).data}, [fonts_call("f.dvi", fonts)])
+
+
 def three_hundred_fonts():
     """300 fonts are handed in, of which 299 have no bytes: the script uses the last one, and so
     does its file. A font after 300 of other names is found too."""
@@ -95,12 +101,16 @@ def three_hundred_fonts():
     runs = [([*call, "script", *words], Printed(0, printed, file.data)) for call in calls]
     marks = Printed(0, listed_page([f"glyph 7 99 0 {5 * PT}"]))
     bad = ["list", "f.dvi", *words[:-1], "n299=none.tfm"]
+    rule = page_file([put_rule(1, 1)]).data
     runs += [
         (["list", "f.dvi", *words], marks),
         (["paint", "1", "72", "2", "1", "f.dvi", *words], Printed(0, b"P1\n2 1\n00\n")),
         (bad, Printed(1, b"refused 5 BadTfm TooShort\n")),
+        (["check", "f.dvi", *words], (0, b"")),
+        (["marks", "rule.dvi", *words], (0, listed_page(["rule 0 0 1 1"]))),
     ]
-    files = {"script": script, "none.tfm": b"", "tiny.tfm": TINY, "f.dvi": file.data}
+    files = {"script": script, "none.tfm": b"", "tiny.tfm": TINY}
+    files |= {"f.dvi": file.data, "rule.dvi": rule}
     return Calls(files, runs)
 
 
@@ -202,6 +212,34 @@ def large_files():
     return Calls(files, [*calls.calls, *marks, *checks])
 
 
+def checks_with_a_font():
+    """A check, with a font, of a page of a glyph and 8,000 rules, and of one whose last rule is no
+    instruction."""
+    body = [select(0), C, *[put_rule(PT, PT)] * 8000]
+    file = page_file(body, PT, 5 * PT, [FIRST])
+    last_rule = file.page_ends[0] - 1 - len(put_rule(PT, PT))
+    assert last_rule > 1 << 16
+    files = {"f.dvi": file.data, "page.dvi": changed(file.data, last_rule, b"\xfa")}
+    wanted = {"f.dvi": (0, b""), "page.dvi": (1, refusal(last_rule, "Opcode"))}
+    calls = [(["check", name, "tiny=tiny.tfm"], its) for name, its in wanted.items()]
+    return Calls({"tiny.tfm": TINY, **files}, calls)
+
+
+def many_pages():
+    """1,100 pages in less than 64 KiB, each with its number as a count, and a rule of its own
+    width."""
+    pages = [Page([put_rule(1, at)], (at, *[0] * 9)) for at in range(1, 1101)]
+    data = dvi_file(pages, 1, 1100).data
+    assert len(data) < 1 << 16
+    counts = [
+        (" ".join(map(str, it.counts)), [f"rule 0 0 1 {at}"]) for at, it in enumerate(pages, 1)
+    ]
+    text, black = listed(counts), b"".join(bitmap([(0, 0, 1, 1100)], 72, 2, 1))
+    calls = [(["marks", "f.dvi"], (0, text)), (["list", "f.dvi"], Printed(0, text))]
+    paint = (["paint", "1100", "72", "2", "1", "f.dvi"], Printed(0, black))
+    return Calls({"f.dvi": data}, [*calls, paint, (["check", "f.dvi"], (0, b""))])
+
+
 def fonts_of_large_file():
     """The fonts of a file above 64 KiB."""
     data = rules_file(*FONTS_OF_RULES).data
@@ -226,10 +264,12 @@ def large_broken_files():
 
 def many_replies():
     """66,000 replies, the last of them a refusal, by one call and by a job's. From C they are
-    texts, and from Python numbers of which texts are made."""
+    texts, and from Python numbers of which texts are made. The job gets them in one piece, and in
+    pieces of up to 1,000 lines."""
     rows = [*rows_of("void 0") * 65_999, ("ship 0", "refused 21 VoidBox")]
     script, text = talk(rows, NO_PAGES)
-    calls = [(words, Printed(1, text)) for words in (["run", "script"], ["job", "0", "script"])]
+    words = (["run"], ["job", "0"], ["job", "1000"])
+    calls = [([*it, "script"], Printed(1, text)) for it in words]
     return Calls({"script": script}, calls)
 
 
@@ -238,8 +278,11 @@ CASES = {
     "298 fonts": partial(calls_of_work, large_inputs.many_words),
     "300 fonts": three_hundred_fonts,
     "1,000 definitions": definitions_of_another_program,
+    "names above 64 KiB": long_names,
+    "1,100 pages": many_pages,
     "files above 64 KiB": large_files,
     "fonts of a file above 64 KiB": fonts_of_large_file,
+    "checks with a font of files above 64 KiB": checks_with_a_font,
     "files that are broken above 64 KiB": large_broken_files,
     "answers above 2 MiB": partial(calls_of_work, large_inputs.long_answers),
     "66,000 replies": many_replies,

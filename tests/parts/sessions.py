@@ -219,6 +219,16 @@ def many_answers(_, program):
         )
 
 
+def many_lines(_, program):
+    """More than 65,536 lines, from a client that reads while it writes."""
+    count = 70_000
+    with Session(program) as it:
+        output, errors = it.started.communicate(b"void 0\n" * count, timeout=LIMIT)
+    answers = b"".join(b"%d: ok\n" % number for number in range(1, count + 1))
+    same("the answers", output, answers + b"end: pages 0 bytes 0\n")
+    same("standard error", errors, b"")
+
+
 def client_that_closes(file, program):
     """A client that reads no longer: the script goes on, and its file is whole."""
     with Session(program) as it:
@@ -366,6 +376,7 @@ CASES = {
     "lines of a mebibyte": long_lines,
     "no lines": no_lines,
     "more answers than a pipe holds": many_answers,
+    "more lines than 65,536": many_lines,
     "a client that closes": client_that_closes,
     "an output that is full": output_that_is_full,
     "an input that never waits": input_that_never_waits,
