@@ -259,7 +259,7 @@ def older_in_rust(root, prefix, said, room):
     """What is wrong with crates over the calls of version 1.1.0, as an archive and as a shared
     object: the build has to name a call that is not there. Without a library it has to succeed, as
     for documentation."""
-    need("cargo", "ar")
+    need("cargo")
     rows = [it.split("\t") for it in read(f"{root}/tests/interface.tsv").splitlines()]
     names = [
         re.search(r" (boxglue_\w+)\(", it[1])[1] for it in rows if it[0] < "1.2" and "(" in it[1]
