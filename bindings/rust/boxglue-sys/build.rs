@@ -1,6 +1,6 @@
 //! Finds libboxglue: in the folder that BOXGLUE_LIB_DIR names; else in the one that `./install --library` wrote into the file `libdir` beside this script;
 //! else by pkg-config. It links the archive libboxglue.a, so that a program needs no library where it runs; with BOXGLUE_SHARED=1, or without an archive, the shared object.
-//! A library of another version is refused. Where docs.rs makes the documentation nothing is linked.
+//! A library that lacks a call of this crate is refused. Where docs.rs makes the documentation nothing is linked.
 use std::collections::HashSet;
 use std::path::{Path, PathBuf};
 use std::process::Command;
@@ -27,7 +27,7 @@ fn pkg_config(words: &[&str]) -> Option<String> {
 
 /// A call of this crate that a library lacks. An older library lacks some, and has structs of other sizes, which no linker finds. In an archive and in a
 /// shared object each name is a text between two bytes of 0. A library that is not there lacks nothing here: `cargo doc` and `cargo check` need none.
-fn lacking(library: &Path) -> Option<&'static str> {
+fn missing_call(library: &Path) -> Option<&'static str> {
     let bytes = fs::read(library).ok()?;
     let names: HashSet<&[u8]> = bytes.split(|it| *it == 0).collect();
     let mut calls = include_str!("src/lib.rs").lines().filter_map(|it| it.strip_prefix("    pub fn ")?.split('(').next());
@@ -65,7 +65,7 @@ fn main() {
     let is_static = archive.exists() && env::var("BOXGLUE_SHARED").as_deref() != Ok("1");
     let library = if is_static { archive } else { folder.join("libboxglue.so") };
     println!("cargo:rerun-if-changed={}", library.display());
-    if let Some(call) = lacking(&library) {
+    if let Some(call) = missing_call(&library) {
         panic!("{} lacks {call}: it is older than this crate, which needs version {}", library.display(), env!("CARGO_PKG_VERSION"));
     }
     println!("cargo:rustc-link-search=native={}", folder.display());
