@@ -193,6 +193,15 @@ impl Error {
         }
     }
 
+    /// Whether a call that has run its commands accepted them all, by its status; the error of a call that has run none.
+    pub(crate) fn is_accepted(status: u32) -> Result<bool, Error> {
+        match status {
+            sys::BOXGLUE_ACCEPTED => Ok(true),
+            sys::BOXGLUE_REFUSED | sys::BOXGLUE_REFUSED_MEMORY => Ok(false),
+            other => Err(Error::of(other)),
+        }
+    }
+
     /// The error of the first refusal among lines.
     pub(crate) fn refused(lines: &str) -> Error {
         Refusal::all(lines).next().map_or(Error::Other(sys::BOXGLUE_REFUSED), Error::Refused)
@@ -228,3 +237,18 @@ impl From<Refusal> for Error {
 
 /// The text of a refusal is that of the error, so it is no source beside it.
 impl std::error::Error for Error {}
+
+#[cfg(test)]
+mod tests {
+    use super::{sys, Error};
+
+    // No test of a whole call has the library refuse memory for one command.
+    #[test]
+    fn commands_are_accepted_by_one_status_alone() {
+        assert_eq!(Error::is_accepted(sys::BOXGLUE_ACCEPTED), Ok(true));
+        assert_eq!(Error::is_accepted(sys::BOXGLUE_REFUSED), Ok(false));
+        assert_eq!(Error::is_accepted(sys::BOXGLUE_REFUSED_MEMORY), Ok(false));
+        assert_eq!(Error::is_accepted(sys::BOXGLUE_OUT_OF_MEMORY), Err(Error::OutOfMemory));
+        assert_eq!(Error::is_accepted(sys::BOXGLUE_ANSWERS_LOST), Err(Error::AnswersLost));
+    }
+}

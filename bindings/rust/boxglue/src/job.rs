@@ -125,12 +125,10 @@ impl Job {
 
     /// The answers after a call with this status.
     fn answers(&mut self, status: u32, lines: usize) -> Result<TextAnswers, Error> {
-        if !has_run(status) {
-            return Err(Error::of(status));
-        }
+        let accepted = Error::is_accepted(status)?;
         // SAFETY: the buffer is a slice.
         let text = one_text(answers_room(lines), |at, room, size| unsafe { sys::boxglue_job_answers(&mut self.handle, at, room, size) })?;
-        Ok(TextAnswers { text, accepted: status == sys::BOXGLUE_ACCEPTED })
+        Ok(TextAnswers { text, accepted })
     }
 
     /// Runs a piece of a script, which is whole lines, and returns the replies to its commands. Lines are numbered on from piece to piece.
@@ -157,12 +155,10 @@ impl Job {
         let (mut rows, mut count) = (buffer(lines_of(script), sys::boxglue_reply::default())?, 0);
         // SAFETY: each pointer is that of a slice with its length, and they do not overlap. A room of a reply to each line suffices, so status 4 is not returned.
         let status = unsafe { sys::boxglue_job_run(&mut self.handle, script.as_ptr(), script.len(), rows.as_mut_ptr(), rows.len(), &mut count) };
-        if !has_run(status) {
-            return Err(Error::of(status));
-        }
+        let accepted = Error::is_accepted(status)?;
         let mut replies: Vec<Reply> = rows[..count].iter().map(Reply::of).collect();
         self.lists.follow(script, &mut replies);
-        Ok(Answers { replies, accepted: status == sys::BOXGLUE_ACCEPTED })
+        Ok(Answers { replies, accepted })
     }
 
     /// Runs a piece of a script as [`Job::commands`] does, and returns the answers as a text.
@@ -185,9 +181,7 @@ impl Job {
         let (mut rows, mut count) = ([sys::boxglue_reply::default(); 2], 0);
         // SAFETY: as in `commands`.
         let status = unsafe { sys::boxglue_job_run(&mut self.handle, script.as_ptr(), script.len(), rows.as_mut_ptr(), rows.len(), &mut count) };
-        if !has_run(status) {
-            return Err(Error::of(status));
-        }
+        Error::is_accepted(status)?;
         let mut reply = Reply::of(&rows[0]);
         self.lists.follow(script, std::slice::from_mut(&mut reply));
         reply.answer.map_err(|it| Error::Refused(Refusal { command: Some(self.line.shown()), ..it }))
@@ -204,9 +198,7 @@ impl Job {
         let mut row = sys::boxglue_reply::default();
         // SAFETY: the handle has a job.
         let status = unsafe { sys::boxglue_job_end(&mut self.handle, &mut row) };
-        if !has_run(status) {
-            return Err(Error::of(status));
-        }
+        Error::is_accepted(status)?;
         let mut reply = Reply::of(&row);
         if let Err(refusal) = &mut reply.answer {
             self.lists.explain(refusal);
@@ -240,11 +232,6 @@ impl Job {
         // SAFETY: the buffer is a slice.
         one_output(DVI_ROOM, |at, room, size| unsafe { sys::boxglue_job_take(&mut self.handle, at, room, size) }).map(|(_, bytes)| bytes)
     }
-}
-
-/// Whether a call with this status has run its commands.
-fn has_run(status: u32) -> bool {
-    matches!(status, sys::BOXGLUE_ACCEPTED | sys::BOXGLUE_REFUSED | sys::BOXGLUE_REFUSED_MEMORY)
 }
 
 impl Drop for Job {

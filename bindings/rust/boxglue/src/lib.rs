@@ -150,15 +150,13 @@ pub fn run_text(script: impl AsRef<[u8]>, fonts: &[Font<'_>]) -> Result<TextRun,
                 &mut sizes,
             )
         };
-        match status {
-            sys::BOXGLUE_BUFFER_TOO_SMALL => {}
-            sys::BOXGLUE_ACCEPTED | sys::BOXGLUE_REFUSED | sys::BOXGLUE_REFUSED_MEMORY => {
-                answers.truncate(sizes.answers);
-                dvi.truncate(sizes.dvi);
-                return Ok(TextRun { answers: text(answers), dvi, accepted: status == sys::BOXGLUE_ACCEPTED });
-            }
-            other => return Err(Error::of(other)),
+        if status == sys::BOXGLUE_BUFFER_TOO_SMALL {
+            continue;
         }
+        let accepted = Error::is_accepted(status)?;
+        answers.truncate(sizes.answers);
+        dvi.truncate(sizes.dvi);
+        return Ok(TextRun { answers: text(answers), dvi, accepted });
     }
 }
 

@@ -278,16 +278,14 @@ pub fn run(script: impl AsRef<[u8]>, fonts: &[Font<'_>]) -> Result<Run, Error> {
                 &mut sizes,
             )
         };
-        match status {
-            sys::BOXGLUE_BUFFER_TOO_SMALL => {}
-            sys::BOXGLUE_ACCEPTED | sys::BOXGLUE_REFUSED | sys::BOXGLUE_REFUSED_MEMORY => {
-                dvi.truncate(sizes.dvi);
-                let mut replies: Vec<Reply> = rows[..sizes.replies].iter().map(Reply::of).collect();
-                OpenLists::default().follow(script, &mut replies);
-                return Ok(Run { replies, dvi, accepted: status == sys::BOXGLUE_ACCEPTED });
-            }
-            other => return Err(Error::of(other)),
+        if status == sys::BOXGLUE_BUFFER_TOO_SMALL {
+            continue;
         }
+        let accepted = Error::is_accepted(status)?;
+        dvi.truncate(sizes.dvi);
+        let mut replies: Vec<Reply> = rows[..sizes.replies].iter().map(Reply::of).collect();
+        OpenLists::default().follow(script, &mut replies);
+        return Ok(Run { replies, dvi, accepted });
     }
 }
 
