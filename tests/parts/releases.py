@@ -29,7 +29,7 @@ from tools.releases.builds import says_unproved
 TITLE = "tools/release: the same bytes twice, in fresh systems of Debian by tarball and by packages, and without lintian's errors; what is damaged or changed is refused"
 PROGRAM = "library"
 NEEDS_PROGRAM = True
-WEIGHT = 3
+WEIGHT = 4
 LIMIT = 600
 # What is not part of a release, and what makes no difference to it.
 LEFT_OUT = re.compile(r"(?:crates|tests|bench)/")
