@@ -193,7 +193,7 @@ impl Error {
         }
     }
 
-    /// Whether a call that has run its commands accepted them all, by its status; the error of a call that has run none.
+    /// Whether all commands of a call were accepted, by its status; the error of a call that has no answers.
     pub(crate) fn is_accepted(status: u32) -> Result<bool, Error> {
         match status {
             sys::BOXGLUE_ACCEPTED => Ok(true),
